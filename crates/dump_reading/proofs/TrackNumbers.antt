@@ -1,13 +1,13 @@
 -- Which number a track has among those of a format, and which tracks files can be named by.
-use Rattle.std.specs.Prelude.{◌≡◌, ℕ, zero, suc, ◌+◌, ◌-◌, ◌*◌, ◌/◌, ◌%◌, ◌<◌, ◌≤◌, ◌⊎◌, Bool, true, false, ◌&&◌, nat_eq, nat_lt, not, cond, min, List, [], ◌∷◌, ◌++◌, length, map, take, filter, get_or, slice_get, Some, refl}
+use Rattle.std.specs.Prelude.{◌≡◌, ℕ, zero, suc, ◌+◌, ◌-◌, ◌*◌, ◌/◌, ◌%◌, ◌<◌, ◌≤◌, ◌⊎◌, Bool, true, false, ◌&&◌, nat_eq, nat_lt, not, cond, min, List, [], ◌∷◌, length, take, filter, get_or, slice_get, Some, refl}
 use Rattle.std.specs.List.{flat_map, range_with_len}
-use Rattle.std.proofs.Common.{ap, sym, subst, ◌∙◌, arith, inl, inr, length-append}
+use Rattle.std.proofs.Common.{ap, sym, subst, ◌∙◌, arith, inl, inr}
 use Rattle.std.proofs.Math.Nat.{mul-le-mul, mul-le-mul_right, suc-mul, mul_comm}
 use Rattle.std.proofs.lemmas.Bool.{cases_lt, eq-eqb, le-ltb}
-use Rattle.std.proofs.lemmas.List.{get_or_append_left, get_or-append-add, take_all}
-use Rattle.std.proofs.lemmas.List.FromFn.{get_or-map-range_with_len, length-map-range_with_len}
+use Rattle.std.proofs.lemmas.List.{take_all}
 use Rattle.std.proofs.lemmas.Option.{get_or_from_slice_get}
 use Rattle.flux_base.specs.declared.track.TrackId.{TrackId}
+use Rattle.flux_base.specs.lemmas.Grids.{get-grid, grid, length-grid}
 use Rattle.sector_images.specs.Formats.{row}
 use Rattle.sector_images.specs.Places.{IsTrack, TracksKeepBounds, tracks}
 use Rattle.sector_images.specs.declared.format.Format.{Format}
@@ -17,46 +17,6 @@ use Rattle.track_shelf.specs.declared.stepping.Stepping.{Stepping}
 use Rattle.track_shelf.specs.declared.stepping.Stepping.TheVariants.{Double, Single}
 use Rattle.dump_reading.specs.Beside.{beside_at, beside_tracks, both_heads, is_track, most_cylinders, named_tracks, near_track}
 use Rattle.dump_reading.proofs.NextStreams.{track-is}
-
--- rows of the same length, one after another
-module _ {X : Type 0} (make : ℕ → ℕ → X) (columns : ℕ) where
-  abbrev line_of : ℕ → List X
-  line_of r = map (λ c. make r c) (range_with_len 0 columns)
-
-  abbrev lines_from : ℕ → ℕ → List X
-  lines_from first rows = flat_map line_of (range_with_len first rows)
-
-  length-line : (r : ℕ) → length (line_of r) ≡ columns
-  length-line r = length-map-range_with_len (λ c. make r c) 0 columns
-
-  length-lines : (first rows : ℕ) → length (lines_from first rows) ≡ rows * columns
-  length-lines first zero = let none : 0 * columns ≡ 0 = omega arith in sym none
-  length-lines first (suc rows) =
-      let more = length-append (line_of first) (lines_from (first + 1) rows) in
-      omega (arith, more, length-line first, length-lines (first + 1) rows, suc-mul rows columns)
-
-  get-lines : (first rows r c : ℕ) (d : X) → r < rows → c < columns → get_or (lines_from first rows) (r * columns + c) d ≡ make (first + r) c
-  get-lines first zero r c d below low = absurd (omega (arith, below))
-  get-lines first (suc rows) zero c d below low =
-      let at : 0 * columns + c ≡ c = omega arith in
-      let same : first + 0 ≡ first = omega arith in
-      let within : c < length (line_of first) = omega (arith, low, length-line first) in
-      ap (λ (n : ℕ). get_or (line_of first ++ lines_from (first + 1) rows) n d) at
-      ∙ get_or_append_left (line_of first) (lines_from (first + 1) rows) d c within
-      ∙ get_or-map-range_with_len (λ k. make first k) 0 columns c c d low (omega arith)
-      ∙ ap (λ (n : ℕ). make n c) (sym same)
-  get-lines first (suc rows) (suc r) c d below low =
-      let at : suc r * columns + c ≡ length (line_of first) + (r * columns + c) = omega (arith, suc-mul r columns, length-line first) in
-      let next : first + 1 + r ≡ first + suc r = omega arith in
-      ap (λ (n : ℕ). get_or (line_of first ++ lines_from (first + 1) rows) n d) at
-      ∙ get_or-append-add (line_of first) (lines_from (first + 1) rows) (r * columns + c) d
-      ∙ get-lines (first + 1) rows r c d (omega (arith, below)) low
-      ∙ ap (λ (n : ℕ). make n c) next
-
-  pub get-line : (rows r c : ℕ) (d : X) → r < rows → c < columns → get_or (lines_from 0 rows) (r * columns + c) d ≡ make r c
-  get-line rows r c d below low =
-      let same : 0 + r ≡ r = omega arith in
-      get-lines 0 rows r c d below low ∙ ap (λ (n : ℕ). make n c) same
 
 -- the number of a row and a column is below that of all
 below-all : (rows columns r c : ℕ) → r < rows → c < columns → r * columns + c < rows * columns
@@ -75,7 +35,7 @@ no_track = record { cylinder = 0; head = 0 }
 
 -- the tracks of a format stand in one of two orders
 abbrev InOrder : Format → Type 0
-InOrder format = (tracks format ≡ lines_from by_cylinder (row format).heads 0 (row format).cylinders) ⊎ (tracks format ≡ lines_from by_head (row format).cylinders 0 (row format).heads)
+InOrder format = (tracks format ≡ grid by_cylinder (row format).heads (row format).cylinders) ⊎ (tracks format ≡ grid by_head (row format).cylinders (row format).heads)
 
 in-order : (format : Format) → InOrder format
 in-order Ibm3740 = inl refl
@@ -107,20 +67,20 @@ number-of format track is = by (in-order format)
 
     by : InOrder format → (n : ℕ) × (n < length (tracks format)) × (get_or (tracks format) n no_track ≡ track)
     by (inl same) =
-        let size : length (tracks format) ≡ cylinders * heads = ap (λ (xs : List TrackId). length xs) same ∙ length-lines by_cylinder heads 0 cylinders in
+        let size : length (tracks format) ≡ cylinders * heads = ap (λ (xs : List TrackId). length xs) same ∙ length-grid by_cylinder heads cylinders in
         let low = below-all cylinders heads track.cylinder track.head is.0 is.1 in (
           track.cylinder * heads + track.head,
           omega (arith, size, low),
           ap (λ (xs : List TrackId). get_or xs (track.cylinder * heads + track.head) no_track) same
-              ∙ get-line by_cylinder heads cylinders track.cylinder track.head no_track is.0 is.1,
+              ∙ get-grid by_cylinder heads cylinders track.cylinder track.head no_track is.0 is.1,
         )
     by (inr same) =
-        let size : length (tracks format) ≡ heads * cylinders = ap (λ (xs : List TrackId). length xs) same ∙ length-lines by_head cylinders 0 heads in
+        let size : length (tracks format) ≡ heads * cylinders = ap (λ (xs : List TrackId). length xs) same ∙ length-grid by_head cylinders heads in
         let low = below-all heads cylinders track.head track.cylinder is.1 is.0 in (
           track.head * cylinders + track.cylinder,
           omega (arith, size, low),
           ap (λ (xs : List TrackId). get_or xs (track.head * cylinders + track.cylinder) no_track) same
-              ∙ get-line by_head cylinders heads track.head track.cylinder no_track is.1 is.0,
+              ∙ get-grid by_head cylinders heads track.head track.cylinder no_track is.1 is.0,
         )
 
 -- the last number of rows and columns is that of the last row and column
@@ -152,17 +112,17 @@ last-track format last at is = by (in-order format)
 
     by : InOrder format → last ≡ record { cylinder = cylinders - 1; head = heads - 1 }
     by (inl same) =
-        let size : length (tracks format) ≡ cylinders * heads = ap (λ (xs : List TrackId). length xs) same ∙ length-lines by_cylinder heads 0 cylinders in
+        let size : length (tracks format) ≡ cylinders * heads = ap (λ (xs : List TrackId). length xs) same ∙ length-grid by_cylinder heads cylinders in
         let at_last : length (tracks format) - 1 ≡ (cylinders - 1) * heads + (heads - 1) = ap (λ (n : ℕ). n - 1) size ∙ sym (last-number cylinders heads some_cylinders some_heads) in
         sym get ∙ ap (λ (n : ℕ). get_or (tracks format) n no_track) at_last
         ∙ ap (λ (xs : List TrackId). get_or xs ((cylinders - 1) * heads + (heads - 1)) no_track) same
-        ∙ get-line by_cylinder heads cylinders (cylinders - 1) (heads - 1) no_track (omega (arith, some_cylinders)) (omega (arith, some_heads))
+        ∙ get-grid by_cylinder heads cylinders (cylinders - 1) (heads - 1) no_track (omega (arith, some_cylinders)) (omega (arith, some_heads))
     by (inr same) =
-        let size : length (tracks format) ≡ heads * cylinders = ap (λ (xs : List TrackId). length xs) same ∙ length-lines by_head cylinders 0 heads in
+        let size : length (tracks format) ≡ heads * cylinders = ap (λ (xs : List TrackId). length xs) same ∙ length-grid by_head cylinders heads in
         let at_last : length (tracks format) - 1 ≡ (heads - 1) * cylinders + (cylinders - 1) = ap (λ (n : ℕ). n - 1) size ∙ sym (last-number heads cylinders some_heads some_cylinders) in
         sym get ∙ ap (λ (n : ℕ). get_or (tracks format) n no_track) at_last
         ∙ ap (λ (xs : List TrackId). get_or xs ((heads - 1) * cylinders + (cylinders - 1)) no_track) same
-        ∙ get-line by_head cylinders heads (heads - 1) (cylinders - 1) no_track (omega (arith, some_heads)) (omega (arith, some_cylinders))
+        ∙ get-grid by_head cylinders heads (heads - 1) (cylinders - 1) no_track (omega (arith, some_heads)) (omega (arith, some_cylinders))
 
 pub track-is-one : (format : Format) (track : TrackId) → is_track format track ≡ true → IsTrack format track
 track-is-one format track is = by (cases_lt track.cylinder (row format).cylinders) (cases_lt track.head (row format).heads)
@@ -243,8 +203,8 @@ tracks-few format bounds some = by (in-order format)
         some-factors (suc a) (suc b) more = (omega arith, omega arith)
 
     by : InOrder format → length (tracks format) ≤ 200
-    by (inl same) = few (ap (λ (xs : List TrackId). length xs) same ∙ length-lines by_cylinder heads 0 cylinders)
-    by (inr same) = few (ap (λ (xs : List TrackId). length xs) same ∙ length-lines by_head cylinders 0 heads ∙ mul_comm heads cylinders)
+    by (inl same) = few (ap (λ (xs : List TrackId). length xs) same ∙ length-grid by_cylinder heads cylinders)
+    by (inr same) = few (ap (λ (xs : List TrackId). length xs) same ∙ length-grid by_head cylinders heads ∙ mul_comm heads cylinders)
 
 -- the track of a number among those that files can be named by
 get-pairs : (first rows n : ℕ) → n < 2 * rows → get_or (flat_map both_heads (range_with_len first rows)) n no_track ≡ record { cylinder = first + n / 2; head = n % 2 }

@@ -7,3 +7,4 @@ pub mod Items
 pub mod Giving
 pub mod EachBelow
 pub mod Sizes
+pub mod Grids

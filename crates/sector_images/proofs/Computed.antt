@@ -20,7 +20,7 @@ use Rattle.sector_images.specs.declared.format.TrackOrder.TheVariants.{ByCylinde
 use Rattle.sector_images.specs.Formats.{row, track_order, zone}
 use Rattle.sector_images.specs.Places.{FormatsHaveTracks, ImagesAreSmall, IsTrack, TracksAreFew, TracksKeepBounds, tracks, bytes_of, place_of, sectors_before, sectors_before_track}
 use Rattle.sector_images.proofs.EachFormat.{each_below, each_format, each_row, rows}
-use Rattle.sector_images.proofs.Grids.{weigh-within}
+use Rattle.flux_base.specs.lemmas.Grids.{weigh-within}
 use Rattle.sector_images.proofs.Numbered.{before_few, before_numbered, bounds_of, image_few, tracks_few}
 use Rattle.sector_images.proofs.Orders.{before_track, bytes_before, bytes_of_all, length_tracks, number_within, numbered, track_of}
 

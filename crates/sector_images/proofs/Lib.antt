@@ -1,5 +1,4 @@
 pub mod EachFormat
-pub mod Grids
 pub mod Orders
 pub mod Computed
 pub mod Slots

@@ -9,7 +9,7 @@ use Rattle.sector_images.specs.declared.format.TrackOrder.{TrackOrder}
 use Rattle.sector_images.specs.declared.format.TrackOrder.TheVariants.{ByCylinder, ByHead}
 use Rattle.sector_images.specs.Formats.{row, zone}
 use Rattle.sector_images.specs.Places.{IsTrack, bytes_of, comes_before, sectors_before, sectors_before_track, tracks_by}
-use Rattle.sector_images.proofs.Grids.{before-number, column-low, get-number, length-grid, row-low, weighs, weighs-all}
+use Rattle.flux_base.specs.lemmas.Grids.{before-number, column-low, get-number, length-grid, row-low, weighs, weighs-all}
 
 -- the track of a number: each cylinder has so many heads, or each head so many cylinders
 abbrev pub numbered : TrackOrder → (cylinders heads number : ℕ) → TrackId
