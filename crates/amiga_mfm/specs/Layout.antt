@@ -14,8 +14,8 @@ use Rattle.amiga_mfm.specs.declared.layout.Row.TheVariants.{Run, Header, Content
 use Rattle.amiga_mfm.specs.Longs.{HALF_CELLS, half_bytes, halves, longs_of}
 use Rattle.amiga_mfm.specs.Sectors.{FORMAT_BYTE, SECTOR_SIZE, track_number}
 
--- a sector: two bytes of zeros and its frame; and after the last sector the gap that fills the
--- track
+-- a sector: two bytes of zeros and its frame; and after the last
+-- sector the gap that fills the track
 abbrev pub rows : Rows Row
 rows = record {
   lead_in = [];

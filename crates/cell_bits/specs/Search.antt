@@ -19,8 +19,8 @@ IsFirstWord cells value count from to (Some place) =
 abbrev pub HasNoOne : List Bool → ℕ → ℕ → Type 0
 HasNoOne cells from to = (place : ℕ) → from ≤ place → place < to → get_or cells place false ≡ false
 
--- the least place from `from` to below `to` whose cell is a one, or none exactly where there is
--- none
+-- the least place from `from` to below `to` whose cell is a one, or
+-- none exactly where there is none
 abbrev pub IsFirstOne : List Bool → ℕ → ℕ → Option ℕ → Type 0
 IsFirstOne cells from to None = HasNoOne cells from to
 IsFirstOne cells from to (Some place) =

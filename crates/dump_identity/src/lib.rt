@@ -1,5 +1,5 @@
-//! Which disk a dump is of: it is read as a disk of each format that has a name in turn, and what each comes to is
-//! said.
+//! Which disk a dump is of: it is read as a disk of each format that has a name in turn,
+//! and what each comes to is said.
 #![tactic(auto)]
 
 mod candidate;

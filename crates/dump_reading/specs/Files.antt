@@ -1,5 +1,5 @@
--- What the files of dumps do to their shelf: what an open one has counted, and how many of them
--- failed.
+-- What the files of dumps do to their shelf: what an open one has
+-- counted, and how many of them failed.
 use Rattle.std.specs.Prelude.{◌≡◌, ◌≤◌, ◌<◌, ℕ, Option, Some, None}
 use Rattle.flux_base.specs.Counts.{FaultCounts}
 use Rattle.flux_base.specs.Outside.{Rose}

@@ -15,8 +15,8 @@ pub struct DumpTotals {
     /// How many names of other headers were told: those with whole data, those that have none and are counted as
     /// traces, and one for each track where whole data follow a name that is not told.
     pub others: u32,
-    /// How many of these have whole data after one of their headers at least; the names that are not told are such a
-    /// one.
+    /// How many of these have whole data after one of their headers at least; the names
+    /// that are not told are such a one.
     pub whole: u32,
 }
 

@@ -1,5 +1,5 @@
--- How often an object of the outside failed, and what a call does to that: one relation of two
--- moments.
+-- How often an object of the outside failed, and what a call does to
+-- that: one relation of two moments.
 use Rattle.std.specs.Prelude.{ℕ, ◌≤◌, Bool, true, false, Option}
 use Rattle.flux_base.specs.Outside.{Rose, IsCounted}
 

@@ -73,8 +73,8 @@ abbrev pub SectorOf : (ℕ → Type 0) → Option ℕ → Type 0
 SectorOf header None = (sector : ℕ) → ¬ header sector
 SectorOf header (Some sector) = header sector
 
--- what a search for data leaves: the bytes of those that it found in the buffer, which is else
--- empty
+-- what a search for data leaves: the bytes of those that it found in
+-- the buffer, which is else empty
 abbrev pub FirstData : (ℕ → List ℕ → Type 0) → ℕ → Option ℕ → List ℕ → Type 0
 FirstData at from None buffer = (buffer ≡ []) × FirstAt at from None
 FirstData at from (Some place) buffer = FirstAt at from (Some (place, buffer))

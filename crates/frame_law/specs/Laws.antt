@@ -1,5 +1,5 @@
--- What the readings of a list of cells are: all that stands there from a place on, and nothing
--- else.
+-- What the readings of a list of cells are: all that stands there from
+-- a place on, and nothing else.
 use Rattle.std.specs.Prelude.{◌≡◌, ℕ, ◌+◌, ◌%◌, ◌<◌, ◌≤◌, ◌↔◌, Bool, false, List, [], length, drop}
 use Rattle.std.specs.Prelude.{map, replicate, All, Contains}
 use Rattle.std.specs.List.Sorted.{IsStrictlyIncreasing}

@@ -123,8 +123,8 @@ impl IbmDisk {
         }
     }
 
-    /// What people call it, its cylinders, its heads where there are two, and the sectors of a track, where it has a
-    /// name.
+    /// What people call it, its cylinders, its heads where there are two, and the sectors of
+    /// a track, where it has a name.
     #[tactic(auto, unfolding(crate::specs::Disks::disk_label))]
     pub fn label(self) -> &'static str
         ensures text { result.now ≡ disk_label self }

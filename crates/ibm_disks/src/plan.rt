@@ -90,8 +90,8 @@ impl Plan {
         None
     }
 
-    /// What the sectors leave of the track, where so many bytes stand before the first one and around the bytes of
-    /// each.
+    /// What the sectors leave of the track, where so many bytes stand before the first one
+    /// and around the bytes of each.
     fn left(self, before: u16, around: u16) -> u32
         ensures left { result ≡ left_by before around self }
         ensures most { result ≤ 65535 }

@@ -42,8 +42,8 @@ pub record Names (cells : List Bool) (name : HeaderName) : Type 0 where
   pub address : bytes_at cells ADDRESS_PLACE 4 ≡ address_named name
   pub check : number_at cells ADDRESS_CHECK_PLACE ≡ check_of ID_BYTE (address_named name)
 
--- a header names a sector: its name is that of this sector of this track, with the code of its
--- length
+-- a header names a sector: its name is that of this sector of this
+-- track, with the code of its length
 abbrev pub NamesSector : ℕ → TrackId → List Bool → ℕ → Type 0
 NamesSector size_code track cells sector = Names cells (sector_name track sector size_code)
 

@@ -1,5 +1,5 @@
--- Bytes between two streams of one input. The protocol knows one stream alone: this rule is our
--- own.
+-- Bytes between two streams of one input. The protocol knows one
+-- stream alone: this rule is our own.
 use Rattle.std.specs.Prelude.{◌≡◌, ◌≤◌, ◌<◌, ◌+◌, ◌==◌, ◌&&◌, ℕ, Bool, true, List, length, drop}
 use Rattle.std.specs.Prelude.{get_or, take_while}
 use Rattle.std.specs.List.{range_with_len}

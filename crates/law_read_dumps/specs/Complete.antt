@@ -1,5 +1,5 @@
--- What it is that dumps are read completely: every sector is good, and no more was to be read in
--- them.
+-- What it is that dumps are read completely: every sector is good, and
+-- no more was to be read in them.
 use Rattle.std.specs.Prelude.{◌≡◌, ◌<◌, ◌↔◌, IsTrue, ℕ, Bool, List, drop, length, Option}
 use Rattle.disk_recordings.specs.Members.{as_controllers_read, header_at, named_at, whole_data_of}
 use Rattle.dump_reading.specs.Beside.{beside_at, beside_tracks, captures_at, near_track}

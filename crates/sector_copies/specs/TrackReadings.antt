@@ -35,8 +35,8 @@ pub record IsEmptyRoom (format : Format) (number sector : ℕ) (room : SectorRoo
   pub none : SectorStandsFor room.known []
   pub no_passed : room.passed ≡ []
 
--- the room is for one of the format's sectors, and has room for the most cells that a stream can
--- make
+-- the room is for one of the format's sectors, and has room for the
+-- most cells that a stream can make
 pub record IsRoomFor (format : Format) (number : ℕ) (known : SectorKnown)
     (cells : CellsState) : Type 0 where
   pub low : number < length (tracks format)

@@ -91,8 +91,8 @@ impl SectorCopy {
     }
 }
 
-/// The contents of a sector in the order in which they were first met, at most 16. Only `new` may answer want of
-/// memory.
+/// The contents of a sector in the order in which they were first met, at most 16. Only
+/// `new` may answer want of memory.
 #[derive(Debug, Drop)]
 pub(crate) struct Copies {
     held: Vec<SectorCopy>,

@@ -28,8 +28,8 @@ use std::marker::Model;
 use track_shelf::Shelf;
 use turn_merge::Verdict;
 
-/// All that reading one sector of a disk's dumps takes, less than 128 MiB: no answer of a call on it is for want of
-/// memory.
+/// All that reading one sector of a disk's dumps takes, less than 128 MiB: no answer of a
+/// call on it is for want of memory.
 ///
 /// Contracts see the format, the track's number, what is known of the sector, and which of the
 /// track's streams were passed over.

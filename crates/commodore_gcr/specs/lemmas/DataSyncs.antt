@@ -1,5 +1,5 @@
--- Where the sync of data, with their first byte, stands in a ring: only where a sector's data
--- begin.
+-- Where the sync of data, with their first byte, stands in a ring:
+-- only where a sector's data begin.
 use Rattle.std.specs.Prelude.{◌≡◌, ℕ, ◌+◌, drop, refl}
 use Rattle.std.proofs.Common.{subst, arith, inl, inr, lit≤}
 use Rattle.flux_base.specs.declared.track.TrackId.{TrackId}

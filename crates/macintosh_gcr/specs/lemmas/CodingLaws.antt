@@ -15,8 +15,8 @@ use Rattle.macintosh_gcr.specs.Coding.{stored_third, turned, with_tags}
 use Rattle.macintosh_gcr.specs.declared.sums.Sums.{Sums}
 use Rattle.macintosh_gcr.specs.lemmas.Values.{six-more}
 
--- groups of three bytes have four values each; two bytes have three, and with the check values
--- seven
+-- groups of three bytes have four values each; two bytes have three,
+-- and with the check values seven
 pub data-length : (groups spare : ℕ) (sums : Sums) (bytes : List ℕ) → length bytes ≡ 3 * groups + 2
     → length (data_values spare sums bytes) ≡ 4 * groups + 7
 unfolding data_values

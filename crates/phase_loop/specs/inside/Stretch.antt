@@ -1,5 +1,5 @@
--- A stretch of transitions that a loop with a full window takes while its numbers stand in
--- registers.
+-- A stretch of transitions that a loop with a full window takes while
+-- its numbers stand in registers.
 use Rattle.std.specs.Prelude.{◌≡◌, ℕ, ◌+◌, ◌-◌, ◌*◌, ◌/◌, ◌<◌, ◌≤◌, List, [], ◌∷◌, ◌++◌, All, map}
 use Rattle.std.specs.Prelude.{flat_map, length, take, drop, slice_index}
 use Rattle.circular_buffer.specs.Buffer.{buffer}
@@ -45,8 +45,8 @@ stand_next band stand fine count total mean = record {
   count = total;
 }
 
--- what a loop would hold at transition number `next`, with this stand and these counts in its
--- window
+-- what a loop would hold at transition number `next`, with this stand
+-- and these counts in its window
 abbrev pub standing : List ℕ → ℕ → LoopState → Stand → List ℕ → LoopState
 standing times next state stand counts = record {
   first = state.first;

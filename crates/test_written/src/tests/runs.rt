@@ -1,5 +1,5 @@
-//! Runs of the program over objects in memory that have room for the streams of any image, and over shelves with any
-//! files.
+//! Runs of the program over objects in memory that have room for the streams of any image,
+//! and over shelves with any files.
 use flux_base::{Memory, MemorySink, MemorySource, Word};
 use flux_cli::run;
 use std::alloc::Global;

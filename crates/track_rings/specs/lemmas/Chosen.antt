@@ -1,5 +1,5 @@
--- The numbers of a range that pass a test: each passes, and between two neighbouring ones none
--- does.
+-- The numbers of a range that pass a test: each passes, and between
+-- two neighbouring ones none does.
 use Rattle.std.specs.Prelude.{◌≡◌, ◌<◌, ◌≤◌, ℕ, zero, suc, ◌+◌, ◌-◌, Bool, true, false, cond, List}
 use Rattle.std.specs.Prelude.{[], ◌∷◌, length, filter, slice_index, refl}
 use Rattle.std.specs.List.{range_with_len}

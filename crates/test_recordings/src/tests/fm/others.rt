@@ -112,8 +112,8 @@ const LONG_DATA: &[(u8, u16, u32, bool)] = &[
     (7, 16384, 0xFFFF, false),
 ];
 
-/// Data may have more bytes than any sector of a format, up to 8192. Where one of their cells is another, there are
-/// none.
+/// Data may have more bytes than any sector of a format, up to 8192. Where one of their
+/// cells is another, there are none.
 #[test]
 fn tells_data_longer_than_a_sector(rt: HostRuntime) -> Result<(), Fail> {
     for (size, bytes, last_cells, whole) in LONG_DATA {
