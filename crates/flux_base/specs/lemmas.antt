@@ -8,3 +8,4 @@ pub mod Giving
 pub mod EachBelow
 pub mod Sizes
 pub mod Grids
+pub mod Digits

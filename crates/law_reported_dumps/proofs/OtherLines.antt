@@ -1,18 +1,18 @@
 -- The lines of a report that are not those of sectors, and those that are not of streams that were passed over: none has the text of such a
 -- line.
-use Rattle.std.specs.Prelude.{◌≡◌, ◌≢◌, ◌==◌, ◌<◌, ◌⊎◌, ℕ, zero, suc, ◌+◌, ◌-◌, ◌/◌, ◌%◌, All, Bool, true, false, List, [], ◌∷◌, ◌++◌, codes, decimal, get_or, length, nat_lt, if◌then◌else◌, refl}
-use Rattle.std.specs.Fmt.{digits, digits_onto, digit_glyph}
+use Rattle.std.specs.Prelude.{◌≡◌, ◌≢◌, ◌==◌, ◌<◌, ◌⊎◌, ℕ, ◌+◌, ◌-◌, ◌/◌, ◌%◌, All, Bool, false, List, [], ◌∷◌, ◌++◌, codes, decimal, get_or, length, refl}
 use Rattle.std.specs.List.{slice_split}
 use Rattle.std.proofs.Common.{ap, sym, ◌∙◌, arith, append_assoc, inl, inr, length-append, lit<}
 use Rattle.std.proofs.Math.Nat.{div-lt_iff_lt-mul, mod-lt}
 use Rattle.std.proofs.Math.Seq.{get_or-append_seam}
-use Rattle.std.proofs.lemmas.Bool.{lt-ltb, ne_eqb}
+use Rattle.std.proofs.lemmas.Bool.{ne_eqb}
 use Rattle.std.proofs.lemmas.Fmt.{decimal_digit}
 use Rattle.std.proofs.lemmas.List.Elements.{All-append, All-cons, All-get_or, All-nil}
 use Rattle.std.proofs.lemmas.List.Splits.{slice_split_at}
 use Rattle.flux_base.specs.declared.header_name.HeaderName.{HeaderName}
 use Rattle.flux_base.specs.declared.header_name.HeaderName.TheVariants.{Address, TrackSector, TrackSectorSide}
 use Rattle.flux_base.specs.declared.track.TrackId.{TrackId}
+use Rattle.flux_base.specs.lemmas.Digits.{of_digits}
 use Rattle.sector_report.specs.DumpLines.{dump_name, name_text, other_text, passed_text, traces_text, unread_text, untold_text}
 use Rattle.sector_report.specs.LineLaws.{LineFits}
 use Rattle.sector_report.specs.Lines.{fault_text, named_text, place_text, sector_name, total_text, two_digits, verdict_text}
@@ -45,24 +45,11 @@ words text = slice_split is_blank text
 abbrev second_word : List ℕ → List ℕ
 second_word text = get_or (words text) 1 []
 
-digit_no_blank : (b : Bool) (m : ℕ) → is_blank (if b then 48 + m else 87 + m) ≡ false
-digit_no_blank true m = ne_eqb (48 + m) 32 (λ same. omega (arith, same))
-digit_no_blank false m = ne_eqb (87 + m) 32 (λ same. omega (arith, same))
-
-word-if : (b : Bool) (xs ys : List ℕ) → IsWord xs → IsWord ys → IsWord (if b then xs else ys)
-word-if true xs ys first second = first
-word-if false xs ys first second = second
-
-word-digits : (k n : ℕ) (acc : List ℕ) → IsWord acc → IsWord (digits_onto k 10 false n acc)
-word-digits zero n acc is = is
-word-digits (suc k) n acc is =
-    let glyph : ℕ = digit_glyph false (n % 10) in
-    let here : IsWord (glyph ∷ acc) = All-cons (λ (byte : ℕ). is_blank byte ≡ false) glyph acc (digit_no_blank (nat_lt (n % 10) 10) (n % 10)) is in
-    word-if (n / 10 == 0) (glyph ∷ acc) (digits_onto k 10 false (n / 10) (glyph ∷ acc)) here (word-digits k (n / 10) (glyph ∷ acc) here)
-
 word-decimal : (n : ℕ) → IsWord (decimal n)
-unfolding digits
-word-decimal n = word-digits 64 n [] (All-nil (λ (byte : ℕ). is_blank byte ≡ false))
+word-decimal n =
+    of_digits IsWord
+    (λ digit text low high is. All-cons (λ (byte : ℕ). is_blank byte ≡ false) digit text (ne_eqb digit 32 (λ same. omega (arith, low, same))) is)
+    (All-nil (λ (byte : ℕ). is_blank byte ≡ false)) n
 
 word-append : (xs ys : List ℕ) → IsWord xs → IsWord ys → IsWord (xs ++ ys)
 word-append xs ys first second = All-append (λ (byte : ℕ). is_blank byte ≡ false) xs ys first second
@@ -365,28 +352,13 @@ pub end_no_sector : IsNoSector (10 ∷ [])
 end_no_sector = other_first (10 ∷ []) 10 refl (inl (lit< tt))
 
 -- a number is written in digits
-digit_low : (n : ℕ) → digit_glyph false (n % 10) < 58
-digit_low n =
-    let low : n % 10 < 10 = mod-lt n (lit< tt) in
-    rw (lt-ltb (n % 10) 10 low) (omega (arith, low))
-
 abbrev AreLow : List ℕ → Type 0
 AreLow text = All (λ (byte : ℕ). byte < 58) text
 
-low-if : (b : Bool) (xs ys : List ℕ) → AreLow xs → AreLow ys → AreLow (if b then xs else ys)
-low-if true xs ys first second = first
-low-if false xs ys first second = second
-
-low-digits : (k n : ℕ) (acc : List ℕ) → AreLow acc → AreLow (digits_onto k 10 false n acc)
-low-digits zero n acc low = low
-low-digits (suc k) n acc low =
-    let glyph : ℕ = digit_glyph false (n % 10) in
-    let here : AreLow (glyph ∷ acc) = All-cons (λ (byte : ℕ). byte < 58) glyph acc (digit_low n) low in
-    low-if (n / 10 == 0) (glyph ∷ acc) (digits_onto k 10 false (n / 10) (glyph ∷ acc)) here (low-digits k (n / 10) (glyph ∷ acc) here)
-
 low-decimal : (n : ℕ) → AreLow (decimal n)
-unfolding digits
-low-decimal n = low-digits 64 n [] (All-nil (λ (byte : ℕ). byte < 58))
+low-decimal n =
+    of_digits AreLow (λ digit text low high is. All-cons (λ (byte : ℕ). byte < 58) digit text high is)
+    (All-nil (λ (byte : ℕ). byte < 58)) n
 
 low_last : (text : List ℕ) → AreLow text → last_of text < 58
 low_last [] low = lit< tt

@@ -1,12 +1,12 @@
 -- The line ends of the pieces of a line.
-use Rattle.std.specs.Prelude.{◌≡◌, ◌==◌, ℕ, zero, suc, ◌+◌, ◌/◌, ◌%◌, Bool, true, false, cond, List, [], ◌∷◌, ◌++◌, codes, decimal, nat_eq, nat_lt, if◌then◌else◌, refl}
-use Rattle.std.specs.Fmt.{digits, digits_onto, digit_glyph}
+use Rattle.std.specs.Prelude.{◌≡◌, ◌==◌, ℕ, ◌+◌, ◌/◌, ◌%◌, Bool, false, cond, List, ◌∷◌, ◌++◌, codes, decimal, nat_eq, refl}
 use Rattle.std.proofs.Common.{ap, ◌∙◌, arith}
 use Rattle.std.proofs.lemmas.Bool.{ne_eqb}
 use Rattle.std.proofs.lemmas.List.Sums.{sum_by-append, sum_by-cons}
 use Rattle.flux_base.specs.declared.header_name.HeaderName.{HeaderName}
 use Rattle.flux_base.specs.declared.header_name.HeaderName.TheVariants.{Address, TrackSector, TrackSectorSide}
 use Rattle.flux_base.specs.declared.track.TrackId.{TrackId}
+use Rattle.flux_base.specs.lemmas.Digits.{of_digits}
 use Rattle.turn_merge.specs.declared.others.OtherTold.{OtherTold}
 use Rattle.turn_merge.specs.declared.verdict.Place.{Place}
 use Rattle.turn_merge.specs.declared.verdict.Verdict.{Verdict}
@@ -30,30 +30,16 @@ none-append {xs} {ys} first second =
     let both = sum_by-append (λ (b : ℕ). cond (b == 10) 1 0) xs ys in
     record { none = omega (arith, both, first.none, second.none) }
 
--- a digit is no line end
-digit_other : (b : Bool) (m : ℕ) → nat_eq (if b then 48 + m else 87 + m) 10 ≡ false
-digit_other true m = ne_eqb (48 + m) 10 (λ same. omega (arith, same))
-digit_other false m = ne_eqb (87 + m) 10 (λ same. omega (arith, same))
-
 none-cons : (d : ℕ) (acc : List ℕ) → nat_eq d 10 ≡ false → HasNone acc → HasNone (d ∷ acc)
 none-cons d acc other more =
     let all = sum_by-cons (λ (b : ℕ). cond (b == 10) 1 0) d acc ∙ ap (λ (b : Bool). cond b 1 0 + line_ends acc) other in
     record { none = omega (arith, all, more.none) }
 
-none-if : (b : Bool) (xs ys : List ℕ) → HasNone xs → HasNone ys → HasNone (if b then xs else ys)
-none-if true xs ys first second = first
-none-if false xs ys first second = second
-
-none-digits : (k n : ℕ) (acc : List ℕ) → HasNone acc → HasNone (digits_onto k 10 false n acc)
-none-digits zero n acc none = none
-none-digits (suc k) n acc none =
-    let glyph : ℕ = digit_glyph false (n % 10) in
-    let here : HasNone (glyph ∷ acc) = none-cons glyph acc (digit_other (nat_lt (n % 10) 10) (n % 10)) none in
-    none-if (n / 10 == 0) (glyph ∷ acc) (digits_onto k 10 false (n / 10) (glyph ∷ acc)) here (none-digits k (n / 10) (glyph ∷ acc) here)
-
 none-decimal : (n : ℕ) → HasNone (decimal n)
-unfolding digits
-none-decimal n = none-digits 64 n [] (record { none = refl })
+none-decimal n =
+    of_digits HasNone
+    (λ digit text low high none. none-cons digit text (ne_eqb digit 10 (λ same. omega (arith, low, same))) none)
+    (record { none = refl }) n
 
 -- a text without a line end that is written out
 none-codes : (text : List ℕ) → line_ends text ≡ 0 → HasNone text

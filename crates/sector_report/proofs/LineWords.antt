@@ -1,6 +1,5 @@
 -- The words of a line: what stands between its blanks, its point and its end. They determine the line's numbers.
-use Rattle.std.specs.Prelude.{◌≡◌, ◌≢◌, ◌==◌, ◌||◌, ◌<◌, ◌^◌, ℕ, zero, suc, ◌+◌, ◌/◌, ◌%◌, All, Bool, true, false, cond, List, [], ◌∷◌, ◌++◌, codes, count_by, decimal, get_or, length, nat_eq, nat_lt, take, if◌then◌else◌, refl}
-use Rattle.std.specs.Fmt.{digits, digits_onto, digit_glyph}
+use Rattle.std.specs.Prelude.{◌≡◌, ◌≢◌, ◌==◌, ◌||◌, ◌<◌, ◌^◌, ℕ, ◌+◌, ◌/◌, ◌%◌, All, Bool, true, false, cond, List, [], ◌∷◌, ◌++◌, codes, count_by, decimal, get_or, length, nat_eq, take, refl}
 use Rattle.std.specs.List.{slice_split}
 use Rattle.std.proofs.Common.{ap, sym, ◌∙◌, arith, append_assoc, drop, eq-eqb, length-append, lit<}
 use Rattle.std.proofs.Math.Nat.{div-add-mod, div-lt_iff_lt-mul, mod-lt}
@@ -10,6 +9,7 @@ use Rattle.std.proofs.lemmas.List.Elements.{All-append, All-cons, All-nil}
 use Rattle.std.proofs.lemmas.List.Splits.{slice_split_at}
 use Rattle.std.proofs.lemmas.List.Sums.{sum_by-cons}
 use Rattle.flux_base.specs.declared.track.TrackId.{TrackId}
+use Rattle.flux_base.specs.lemmas.Digits.{of_digits}
 use Rattle.turn_merge.specs.declared.clock.Clock.{Clock}
 use Rattle.turn_merge.specs.declared.clock.Clock.TheVariants.{Following, Held}
 use Rattle.turn_merge.specs.declared.verdict.Place.{Place}
@@ -37,24 +37,11 @@ no_gap : (byte : ℕ) → 46 < byte → is_gap byte ≡ false
 no_gap byte high =
     rw (ne_eqb byte 32 (λ same. omega (arith, same, high)), ne_eqb byte 46 (λ same. omega (arith, same, high)), ne_eqb byte 10 (λ same. omega (arith, same, high))) refl
 
-digit_no_gap : (b : Bool) (m : ℕ) → is_gap (if b then 48 + m else 87 + m) ≡ false
-digit_no_gap true m = no_gap (48 + m) (omega arith)
-digit_no_gap false m = no_gap (87 + m) (omega arith)
-
-word-if : (b : Bool) (xs ys : List ℕ) → IsWord xs → IsWord ys → IsWord (if b then xs else ys)
-word-if true xs ys first second = first
-word-if false xs ys first second = second
-
-word-digits : (k n : ℕ) (acc : List ℕ) → IsWord acc → IsWord (digits_onto k 10 false n acc)
-word-digits zero n acc is = is
-word-digits (suc k) n acc is =
-    let glyph : ℕ = digit_glyph false (n % 10) in
-    let here : IsWord (glyph ∷ acc) = All-cons (λ (byte : ℕ). is_gap byte ≡ false) glyph acc (digit_no_gap (nat_lt (n % 10) 10) (n % 10)) is in
-    word-if (n / 10 == 0) (glyph ∷ acc) (digits_onto k 10 false (n / 10) (glyph ∷ acc)) here (word-digits k (n / 10) (glyph ∷ acc) here)
-
 pub word-decimal : (n : ℕ) → IsWord (decimal n)
-unfolding digits
-word-decimal n = word-digits 64 n [] (All-nil (λ (byte : ℕ). is_gap byte ≡ false))
+word-decimal n =
+    of_digits IsWord
+    (λ digit text low high is. All-cons (λ (byte : ℕ). is_gap byte ≡ false) digit text (no_gap digit (omega (arith, low))) is)
+    (All-nil (λ (byte : ℕ). is_gap byte ≡ false)) n
 
 none_step : (byte : ℕ) (rest : List ℕ) (b : Bool) → is_gap byte ≡ b → cond b 1 0 + count_by is_gap rest ≡ 0 → (b ≡ false) × (count_by is_gap rest ≡ 0)
 none_step byte rest true is none = absurd (omega (arith, none))
