@@ -10,7 +10,7 @@ use Rattle.circular_buffer.specs.Buffer.{buffer}
 use Rattle.cell_bits.specs.State.{CellsState, room}
 use Rattle.cell_bits.specs.Run.{run_cells, IsShortRun}
 use Rattle.phase_loop.specs.Start.{LONGEST_PERIOD, in_band}
-use Rattle.phase_loop.specs.Window.{WIDEST, IsShort, IsWindow, fine_total, count_total}
+use Rattle.phase_loop.specs.inside.Window.{WIDEST, IsShort, IsWindow, fine_total, count_total}
 use Rattle.phase_loop.specs.State.{LoopState}
 use Rattle.phase_loop.specs.inside.Stretch.{interval_at, intervals_with, counts_of, stand_next, with_runs, AreBetween, AreGuessed, IsStretch, TakesRuns}
 use Rattle.phase_loop.specs.inside.Certain.{fine_at, stand_of, stand_after, stand_at, cells_in, low_difference, row_sum, AreEnds, AreSums, AreTicks, IsAbout, IsDrift, IsRemainder, IsCertain, AreCertain, IsReach, IsEarliest}

@@ -8,7 +8,7 @@ use Rattle.std.proofs.lemmas.List.Sums.{sum_by-cons}
 use Rattle.circular_buffer.specs.Buffer.{keep_last}
 use Rattle.phase_loop.specs.Rows.{Row, no_row, last_row}
 use Rattle.phase_loop.specs.State.{interval_between, intervals}
-use Rattle.phase_loop.specs.Window.{fine_total, count_total}
+use Rattle.phase_loop.specs.inside.Window.{fine_total, count_total}
 use Rattle.phase_loop.specs.declared.window.Interval.{Interval}
 
 pub last_row-push : (rows : List Row) (row : Row) → last_row (rows ++ row ∷ []) ≡ row

@@ -3,7 +3,7 @@ use Rattle.std.proofs.Common.{◌≡◌, ℕ, List, get_or, ◌+◌, ◌-◌, �
 use Rattle.std.proofs.lemmas.Bool.{cases_lt, lt-leb, le-leb}
 use Rattle.std.proofs.lemmas.List.{get_or_default}
 use Rattle.phase_loop.specs.Reciprocals.{AreReciprocals}
-use Rattle.phase_loop.specs.Window.{WIDEST}
+use Rattle.phase_loop.specs.inside.Window.{WIDEST}
 use Rattle.std.proofs.Math.Nat.{div-eq_of_lt-le, lt-div-mul-add, div-mul-le_self, mul-le-mul_left, div-lt_iff_lt-mul}
 
 -- a total times the reciprocal of a count, over 2^40, is the quotient

@@ -11,7 +11,7 @@ use Rattle.phase_loop.specs.Start.{in_band}
 use Rattle.phase_loop.specs.Rows.{Row, no_row, row_at, last_row, row_of_start, row_at_distance, periods_since, period_behind, next_row, with_next_row}
 use Rattle.phase_loop.specs.State.{LoopState, interval_between, intervals, state_behind}
 use Rattle.phase_loop.specs.inside.Step.{restarted, recent_after, period_from, joined, state_after, count_after}
-use Rattle.phase_loop.specs.Window.{fine_total, count_total}
+use Rattle.phase_loop.specs.inside.Window.{fine_total, count_total}
 use Rattle.phase_loop.specs.declared.start.LoopStart.{LoopStart}
 use Rattle.phase_loop.specs.declared.window.Interval.{Interval}
 use Rattle.phase_loop.proofs.Intervals.{last_row-push, intervals-push, length-intervals, drop-intervals, fine_total-intervals, count_total-intervals, keep_last-push}

@@ -11,7 +11,7 @@ use Rattle.circular_buffer.specs.Buffer.{buffer, keep_last}
 use Rattle.cell_bits.specs.State.{CellsState, room}
 use Rattle.cell_bits.specs.Run.{run_cells, IsShortRun}
 use Rattle.phase_loop.specs.Start.{IsStart, LONGEST_PERIOD, SHORTEST_PERIOD, in_band}
-use Rattle.phase_loop.specs.Window.{WIDEST, IsShort, IsWindow, fine_total, count_total}
+use Rattle.phase_loop.specs.inside.Window.{WIDEST, IsShort, IsWindow, fine_total, count_total}
 use Rattle.phase_loop.specs.State.{LoopState}
 use Rattle.phase_loop.specs.inside.Step.{periods_to, joined, period_from, state_after, count_after}
 use Rattle.phase_loop.specs.inside.Stretch.{interval_at, intervals_with, counts_of, stand_next, standing, with_runs, AreBetween, AreGuessed, IsStretch}

@@ -1,5 +1,4 @@
 pub mod Start
-pub mod Window
 pub mod Rows
 pub mod State
 pub mod Loop

@@ -3,3 +3,4 @@ pub mod Appended
 pub mod Certain
 pub mod Step
 pub mod Stretch
+pub mod Window

@@ -1,7 +1,7 @@
 //! Division of a window's totals by a table of reciprocals, several times as fast as a division.
 ghost use Rattle.std.specs.Prelude.{◌≡◌, ◌*◌, ◌/◌, ◌≤◌};
 ghost use Rattle.phase_loop.specs.Reciprocals.{AreReciprocals};
-ghost use Rattle.phase_loop.specs.Window.{WIDEST};
+ghost use Rattle.phase_loop.specs.inside.Window.{WIDEST};
 
 use std::alloc::{AllocError, Global};
 

@@ -1,7 +1,7 @@
 //! The last intervals since the loop started, with their totals.
 ghost use Rattle.std.specs.Prelude.{◌≡◌, ◌+◌, ◌*◌, ◌/◌, ◌<◌, ◌≤◌, [], ◌∷◌, ◌++◌, length, take, map, All, IfOk, IsTrue};
 ghost use Rattle.std.specs.Prelude.{◌↔◌, MatchOption};
-ghost use Rattle.phase_loop.specs.Window.{IsShort};
+ghost use Rattle.phase_loop.specs.inside.Window.{IsShort};
 ghost use Rattle.std.specs.List.{sum_by};
 ghost use Rattle.circular_buffer.specs.Buffer.{buffer, keep_last};
 
@@ -46,7 +46,7 @@ pub(crate) struct Window {
 impl Model for Window {
     ghost use Rattle.std.specs.Prelude.{List};
     ghost use Rattle.phase_loop.specs.declared.window.Interval.{Interval};
-    ghost use Rattle.phase_loop.specs.Window.{IsWindow};
+    ghost use Rattle.phase_loop.specs.inside.Window.{IsWindow};
 
     ghost Value = { List Interval };
 
@@ -56,7 +56,7 @@ impl Model for Window {
 }
 
 impl Window {
-    ghost use Rattle.phase_loop.specs.Window.{WIDEST, IsShort, IsWindow, fine_total, count_total};
+    ghost use Rattle.phase_loop.specs.inside.Window.{WIDEST, IsShort, IsWindow, fine_total, count_total};
 
     pub(crate) fn new(alloc: Global) -> Result<Window, AllocError>
         ensures { IfOk result (λ window. window ≡ []) }

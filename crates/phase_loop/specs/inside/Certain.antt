@@ -4,7 +4,7 @@ use Rattle.std.specs.Prelude.{min, max, ◌≡◌, ℕ, zero, suc, ◌+◌, ◌-
 use Rattle.std.specs.Prelude.{List, drop, slice_index, take}
 use Rattle.phase_loop.specs.Start.{FINE_PER_TICK, INTERVALS, LONGEST, SHORTEST_PERIOD}
 use Rattle.phase_loop.specs.Start.{LONGEST_PERIOD}
-use Rattle.phase_loop.specs.Window.{count_total}
+use Rattle.phase_loop.specs.inside.Window.{count_total}
 use Rattle.phase_loop.specs.State.{LoopState}
 use Rattle.phase_loop.specs.inside.Stretch.{stand_next, TakesRuns}
 use Rattle.phase_loop.specs.declared.start.Band.{Band}

@@ -3,7 +3,7 @@ use Rattle.std.specs.Prelude.{ℕ, ◌+◌, ◌-◌, ◌*◌, ◌/◌, min, max,
 use Rattle.std.specs.Prelude.{if◌then◌else◌, nat_lt}
 use Rattle.circular_buffer.specs.Buffer.{keep_last}
 use Rattle.phase_loop.specs.Start.{INTERVALS, LONGEST, in_band}
-use Rattle.phase_loop.specs.Window.{fine_total, count_total}
+use Rattle.phase_loop.specs.inside.Window.{fine_total, count_total}
 use Rattle.phase_loop.specs.State.{LoopState}
 use Rattle.phase_loop.specs.declared.window.Interval.{Interval}
 

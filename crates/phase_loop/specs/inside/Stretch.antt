@@ -7,7 +7,7 @@ use Rattle.cell_bits.specs.State.{CellsState, room}
 use Rattle.cell_bits.specs.Run.{run_cells, IsShortRun}
 use Rattle.phase_loop.specs.Start.{FINE_PER_TICK, INTERVALS, LONGEST, SHORTEST_PERIOD}
 use Rattle.phase_loop.specs.Start.{LONGEST_PERIOD, in_band}
-use Rattle.phase_loop.specs.Window.{IsWindow}
+use Rattle.phase_loop.specs.inside.Window.{IsWindow}
 use Rattle.phase_loop.specs.State.{LoopState}
 use Rattle.phase_loop.specs.inside.Appended.{IsAppended}
 use Rattle.phase_loop.specs.declared.start.Band.{Band}

@@ -5,7 +5,7 @@ ghost use Rattle.std.specs.List.Sorted.{IsNonDecreasing};
 ghost use Rattle.cell_bits.specs.State.{room};
 ghost use Rattle.cell_bits.specs.Run.{IsShortRun};
 ghost use Rattle.circular_buffer.specs.Buffer.{buffer};
-ghost use Rattle.phase_loop.specs.Window.{IsShort, IsWindow, fine_total};
+ghost use Rattle.phase_loop.specs.inside.Window.{IsShort, IsWindow, fine_total};
 ghost use Rattle.phase_loop.specs.inside.Certain.{AreTicks};
 ghost use Rattle.phase_loop.specs.inside.Stretch.{intervals_with, counts_of, stand_next, AreBetween, AreGuessed};
 ghost use Rattle.phase_loop.specs.inside.Stretch.{Carries};

@@ -1,7 +1,7 @@
 use Rattle.std.proofs.Common.{arith, ◌+◌, sym, subst, List, ◌++◌, length, length-append}
 use Rattle.std.specs.List.{All}
 use Rattle.std.proofs.lemmas.List.{get_or-append-add}
-use Rattle.phase_loop.specs.Window.{IsShort}
+use Rattle.phase_loop.specs.inside.Window.{IsShort}
 use Rattle.phase_loop.specs.declared.window.Interval.{Interval}
 use Rattle.phase_loop.proofs.window.Window.put_counts.Goals as goal
 
