@@ -5,6 +5,7 @@ pub mod RowWritingLaws
 pub mod FrameLaws
 pub mod ControllerLaws
 pub mod OwnData
+pub mod FrameSizes
 pub mod OwnFrames
 pub mod Members
 pub mod Named

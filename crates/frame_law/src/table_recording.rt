@@ -10,7 +10,8 @@ ghost use Rattle.frame_law.specs.lemmas.ControllerLaws.{data_alone, data_within,
 ghost use Rattle.frame_law.specs.lemmas.ControllerLaws.{strict_has_data};
 ghost use Rattle.frame_law.specs.lemmas.FrameLaws.{frames-apart, frame_within, one_content, ring_length, ring_spaced};
 ghost use Rattle.frame_law.specs.lemmas.FrameLaws.{sector_stands};
-ghost use Rattle.frame_law.specs.lemmas.OwnFrames.{header_alone, same_sector, sector_alone, some_cells, some_header};
+ghost use Rattle.frame_law.specs.lemmas.FrameSizes.{some_cells, some_header};
+ghost use Rattle.frame_law.specs.lemmas.OwnFrames.{header_alone, same_sector, sector_alone};
 ghost use Rattle.frame_law.specs.lemmas.OwnFrames.{track-header_agrees, track-header_own, track-named_own};
 ghost use Rattle.frame_law.specs.lemmas.OwnFrames.{track-no_header, track-sector_own};
 ghost use Rattle.track_rings.specs.OwnSectors.{between_zeros};

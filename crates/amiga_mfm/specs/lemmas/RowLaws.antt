@@ -7,7 +7,7 @@ use Rattle.std.proofs.lemmas.List.{length-map, length-replicate}
 use Rattle.std.proofs.lemmas.Simd.{length-zip2}
 use Rattle.flux_base.specs.declared.track.TrackId.{TrackId}
 use Rattle.frame_law.specs.lemmas.Named.{named-by_numbers}
-use Rattle.frame_law.specs.lemmas.OwnFrames.{AreSizes-fit}
+use Rattle.frame_law.specs.lemmas.FrameSizes.{AreSizes-fit}
 use Rattle.frame_law.specs.Frames.{AreSizes}
 use Rattle.mfm_coding.specs.declared.symbol.Symbol.TheVariants.{Data}
 use Rattle.amiga_mfm.specs.declared.half.Half.TheVariants.{Odd, Even}

@@ -18,7 +18,8 @@ use Rattle.apple_gcr.specs.Sectors.{header_end, opening_end, opening_place}
 use Rattle.apple_gcr.specs.SixAndTwo.{AreCoded}
 use Rattle.apple_gcr.specs.lemmas.ValueLaws.{one_carried, one_list}
 use Rattle.track_rings.specs.lemmas.Fronts.{AgreeTo, agree-stands}
-use Rattle.frame_law.specs.lemmas.OwnFrames.{AreSizes-fit, TellsEarly, TellsEnds}
+use Rattle.frame_law.specs.lemmas.FrameSizes.{AreSizes-fit}
+use Rattle.frame_law.specs.lemmas.OwnFrames.{TellsEarly, TellsEnds}
 use Rattle.frame_law.specs.Others.{NamesSectors}
 use Rattle.flux_base.specs.declared.header_name.HeaderName.{HeaderName}
 use Rattle.flux_base.specs.declared.header_name.HeaderName.TheVariants.{Address, TrackSector}

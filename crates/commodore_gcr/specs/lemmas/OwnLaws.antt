@@ -7,7 +7,8 @@ use Rattle.check_values.specs.Sums.{xor}
 use Rattle.track_rings.specs.lemmas.Fronts.{AgreeTo, agree-stands}
 use Rattle.frame_law.specs.lemmas.Named.{named-by_numbers}
 use Rattle.frame_law.specs.Frames.{AreSizes, IsWithinReach}
-use Rattle.frame_law.specs.lemmas.OwnFrames.{AreSizes-fit, TellsEarly}
+use Rattle.frame_law.specs.lemmas.FrameSizes.{AreSizes-fit}
+use Rattle.frame_law.specs.lemmas.OwnFrames.{TellsEarly}
 use Rattle.frame_law.specs.Others.{NamesSectors}
 use Rattle.commodore_gcr.specs.lemmas.CodingLaws.{ByteAt-agree, BytesAt-agree, one_byte_at}
 use Rattle.commodore_gcr.specs.lemmas.CodingLaws.{one_list_at}

@@ -3,7 +3,7 @@ use Rattle.std.specs.Prelude.{◌≡◌, ℕ, ◌+◌, Bool, List, drop, length}
 use Rattle.std.proofs.Common.{ap, sym, ◌∙◌, inl, inr, lit≤}
 use Rattle.flux_base.specs.declared.track.TrackId.{TrackId}
 use Rattle.frame_law.specs.lemmas.Named.{named-by}
-use Rattle.frame_law.specs.lemmas.OwnFrames.{AreSizes-fit}
+use Rattle.frame_law.specs.lemmas.FrameSizes.{AreSizes-fit}
 use Rattle.frame_law.specs.Frames.{AreSizes}
 use Rattle.cell_bits.specs.Word.{Stands}
 use Rattle.flux_base.specs.declared.header_name.HeaderName.{HeaderName}

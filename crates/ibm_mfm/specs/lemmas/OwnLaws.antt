@@ -6,7 +6,8 @@ use Rattle.flux_base.specs.declared.track.TrackId.{TrackId}
 use Rattle.track_rings.specs.lemmas.Fronts.{AgreeTo, agree-data_byte, agree-stands}
 use Rattle.frame_law.specs.lemmas.Named.{named-by}
 use Rattle.frame_law.specs.Frames.{AreSizes}
-use Rattle.frame_law.specs.lemmas.OwnFrames.{AreSizes-fit, TellsEarly}
+use Rattle.frame_law.specs.lemmas.FrameSizes.{AreSizes-fit}
+use Rattle.frame_law.specs.lemmas.OwnFrames.{TellsEarly}
 use Rattle.frame_law.specs.Others.{NamesSectors}
 use Rattle.ibm_fields.specs.lemmas.FieldFronts.{agree-bytes_at, agree-number_at}
 use Rattle.ibm_fields.specs.lemmas.FieldLaws.{length-bytes_at, one_address, one_sector}

@@ -7,7 +7,8 @@ use Rattle.std.proofs.Math.Seq.{drop-append_seam}
 use Rattle.flux_base.specs.declared.track.TrackId.{TrackId}
 use Rattle.track_rings.specs.lemmas.Fronts.{AgreeTo, agree-stands}
 use Rattle.frame_law.specs.Frames.{AreSizes, IsWithinReach}
-use Rattle.frame_law.specs.lemmas.OwnFrames.{AreSizes-fit, TellsEarly}
+use Rattle.frame_law.specs.lemmas.FrameSizes.{AreSizes-fit}
+use Rattle.frame_law.specs.lemmas.OwnFrames.{TellsEarly}
 use Rattle.frame_law.specs.Others.{NamesSectors}
 use Rattle.apple_nibbles.specs.Marks.{IsSync}
 use Rattle.apple_nibbles.specs.Nibbles.{disk_byte}
