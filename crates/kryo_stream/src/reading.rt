@@ -12,8 +12,7 @@ ghost use Rattle.kryo_stream.specs.Outcome.{is_read_fault, HasFullRoom, IsSmall,
 ghost use Rattle.kryo_stream.specs.Pieces.{piece_at};
 ghost use Rattle.kryo_stream.specs.inside.Pieces.{IsText};
 ghost use Rattle.kryo_stream.specs.inside.Progress.{TakesOpenly, IsReading, ReadsOn, IsBlockOpen, TakesBlock};
-ghost use Rattle.kryo_stream.specs.inside.Progress.{IsSkipped};
-ghost use Rattle.kryo_stream.specs.inside.Progress.{IsUnpadded};
+ghost use Rattle.kryo_stream.specs.inside.Progress.{IsSkipped, IsUnpadded};
 ghost use Rattle.kryo_stream.specs.Reads.{reads_at};
 ghost use Rattle.kryo_stream.specs.Stream.{in_stream_bytes, total_bytes};
 ghost use Rattle.kryo_stream.specs.Tally.{new_times};

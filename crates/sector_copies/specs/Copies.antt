@@ -1,6 +1,5 @@
 -- The distinct contents of a sector's good readings: what is told of each.
-use Rattle.std.specs.Prelude.{ℕ, Bool, not, List, [], ◌∷◌, length, take, map}
-use Rattle.std.specs.Prelude.{filter}
+use Rattle.std.specs.Prelude.{ℕ, Bool, not, List, [], ◌∷◌, length, take, map, filter}
 use Rattle.std.specs.Str.{bytes_eq}
 use Rattle.turn_merge.specs.Readings.{NotedReading, bytes_of}
 use Rattle.turn_merge.specs.declared.verdict.Place.{Place}

@@ -1,6 +1,5 @@
 -- What is noted of one sector of a track.
-use Rattle.std.specs.Prelude.{◌≡◌, ℕ, List, filter}
-use Rattle.std.specs.Prelude.{nat_eq}
+use Rattle.std.specs.Prelude.{◌≡◌, ℕ, List, filter, nat_eq}
 use Rattle.turn_merge.specs.Book.{Knowledge, StandsFor}
 use Rattle.turn_merge.specs.Readings.{NotedReading, good_ones}
 use Rattle.sector_copies.specs.Copies.{Copy, copies_over}

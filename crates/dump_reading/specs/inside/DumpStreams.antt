@@ -1,6 +1,5 @@
 -- Steps of the crate's own functions, over what `DumpStreams` defines.
-use Rattle.std.specs.Prelude.{ℕ, Bool, false, cond}
-use Rattle.std.specs.Prelude.{List, [], ◌∷◌, Some}
+use Rattle.std.specs.Prelude.{ℕ, Bool, false, cond, List, [], ◌∷◌, Some}
 use Rattle.flux_engine.specs.Plans.{is_failed}
 use Rattle.flux_engine.specs.declared.track_streams.NextStream.{NextStream}
 use Rattle.flux_engine.specs.declared.track_streams.NextStream.TheVariants.{PassedOver, Read}

@@ -1,6 +1,5 @@
 -- What the numbers of a recording come to: its bounds, and that a track has room for a header.
-use Rattle.std.specs.Prelude.{◌≡◌, ℕ, ◌+◌, ◌<◌, ◌≤◌, Bool, List}
-use Rattle.std.specs.Prelude.{length}
+use Rattle.std.specs.Prelude.{◌≡◌, ℕ, ◌+◌, ◌<◌, ◌≤◌, Bool, List, length}
 use Rattle.std.proofs.Common.{arith}
 use Rattle.track_rings.specs.Rings.{AreSectors, IsSectorNumber}
 use Rattle.track_rings.specs.Rows.{Rows, frame_size, ring_size}

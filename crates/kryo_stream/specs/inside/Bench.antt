@@ -1,7 +1,6 @@
 -- Steps of the crate's own functions, over what `Bench` defines.
-use Rattle.std.specs.Prelude.{◌≡◌, ◌≤◌, ◌<◌, ℕ, ◌+◌, ◌-◌, ◌*◌, ◌^◌, ◌&&◌, List, ◌∷◌, All}
-use Rattle.std.specs.Prelude.{length, count_by, get_or, slice_index, nat_lt, nat_le}
-use Rattle.std.specs.Prelude.{◌⊎◌, Some}
+use Rattle.std.specs.Prelude.{◌≡◌, ◌≤◌, ◌<◌, ℕ, ◌+◌, ◌-◌, ◌*◌, ◌^◌, ◌&&◌, List, ◌∷◌, All, length}
+use Rattle.std.specs.Prelude.{count_by, get_or, slice_index, nat_lt, nat_le, ◌⊎◌, Some}
 use Rattle.std.specs.List.Sorted.{IsNonDecreasing}
 use Rattle.kryo_stream.specs.declared.block.SpelledBlock.{SpelledBlock}
 use Rattle.kryo_stream.specs.declared.block.Mark.{Mark}
@@ -9,8 +8,7 @@ use Rattle.kryo_stream.specs.declared.fault.StreamFault.TheVariants.{IndexPositi
 use Rattle.kryo_stream.specs.declared.fault.TrackFault.{TrackFault}
 use Rattle.kryo_stream.specs.declared.fault.TrackFault.TheVariants.{ReadFault, Memory, Refused}
 use Rattle.kryo_stream.specs.Protocol.{OVERFLOW_TICKS, LIMIT}
-use Rattle.kryo_stream.specs.Stream.{in_stream_bytes, total_bytes, times_of, marks}
-use Rattle.kryo_stream.specs.Stream.{turn_fault}
+use Rattle.kryo_stream.specs.Stream.{in_stream_bytes, total_bytes, times_of, marks, turn_fault}
 use Rattle.kryo_stream.specs.Bench.{BenchState, IsNoted}
 
 -- the time at which the block begins that the byte at this position belongs to: that of the last

@@ -1,10 +1,7 @@
 -- Steps of the crate's own functions, over what `Pieces` defines.
-use Rattle.std.specs.Prelude.{◌≡◌, ◌≤◌, ℕ, ◌+◌, List, length, drop}
-use Rattle.std.specs.Prelude.{slice_index}
+use Rattle.std.specs.Prelude.{◌≡◌, ◌≤◌, ℕ, ◌+◌, List, length, drop, slice_index}
 use Rattle.byteorder.specs.Endian.{little_number}
-use Rattle.kryo_stream.specs.Protocol.{OUT_OF_BAND}
-use Rattle.kryo_stream.specs.Protocol.{INFO_TYPE}
-use Rattle.kryo_stream.specs.Protocol.{LIMIT}
+use Rattle.kryo_stream.specs.Protocol.{OUT_OF_BAND, INFO_TYPE, LIMIT}
 
 -- the header of an Info block of this size is at the front, and its end is within the limit
 pub record IsText (offset : ℕ) (bytes : List ℕ) (size : ℕ) : Type 0 where

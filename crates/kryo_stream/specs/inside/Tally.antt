@@ -1,6 +1,5 @@
 -- Steps of the crate's own functions, over what `Tally` defines.
-use Rattle.std.specs.Prelude.{◌≡◌, ◌≤◌, ℕ, ◌+◌, ◌*◌, ◌||◌, false, List, length, All}
-use Rattle.std.specs.Prelude.{if◌then◌else◌}
+use Rattle.std.specs.Prelude.{◌≡◌, ◌≤◌, ℕ, ◌+◌, ◌*◌, ◌||◌, false, List, length, All, if◌then◌else◌}
 use Rattle.kryo_stream.specs.declared.block.SpelledBlock.{SpelledBlock}
 use Rattle.kryo_stream.specs.declared.before.Before.{Before}
 use Rattle.kryo_stream.specs.Protocol.{OVERFLOW_TICKS, LIMIT}

@@ -10,8 +10,7 @@ ghost use Rattle.std.specs.List.Sorted.{IsNonDecreasing};
 ghost use Rattle.std.specs.List.{All};
 ghost use Rattle.phase_loop.specs.inside.Stretch.{counts_of, AreBetween, AreGuessed, TakesRuns};
 ghost use Rattle.phase_loop.specs.inside.Certain.{AreCertain, AreSums, IsAbout, IsCertain, IsDrift, IsEarliest, IsIn};
-ghost use Rattle.phase_loop.specs.inside.Certain.{IsReach};
-ghost use Rattle.phase_loop.specs.inside.Certain.{IsRemainder, AreTicks, cells_in, low_difference, stand_at};
+ghost use Rattle.phase_loop.specs.inside.Certain.{IsReach, IsRemainder, AreTicks, cells_in, low_difference, stand_at};
 
 use super::stretch::Stand;
 use super::{LONGEST, Loop};

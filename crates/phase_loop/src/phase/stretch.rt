@@ -8,8 +8,7 @@ ghost use Rattle.circular_buffer.specs.Buffer.{buffer};
 ghost use Rattle.phase_loop.specs.inside.Window.{IsShort, IsWindow, fine_total};
 ghost use Rattle.phase_loop.specs.inside.Certain.{AreTicks};
 ghost use Rattle.phase_loop.specs.inside.Stretch.{intervals_with, counts_of, stand_next, AreBetween, AreGuessed};
-ghost use Rattle.phase_loop.specs.inside.Stretch.{Carries};
-ghost use Rattle.phase_loop.specs.inside.Stretch.{IsStretch, TakesRuns};
+ghost use Rattle.phase_loop.specs.inside.Stretch.{Carries, IsStretch, TakesRuns};
 
 use super::certain::put_ticks;
 use super::guess::Guess;
