@@ -7,7 +7,7 @@ use Rattle.std.proofs.lemmas.Slice.Eq.{bytes_eq-Decides}
 use Rattle.turn_merge.specs.declared.verdict.Place.{Place}
 use Rattle.turn_merge.specs.declared.verdict.Verdict.TheVariants.{Good, Contradictory}
 use Rattle.turn_merge.specs.Readings.{NotedReading, good_reading, bytes_of, first_other, verdict_with}
-use Rattle.turn_merge.specs.Book.{IsOf}
+use Rattle.turn_merge.specs.inside.Book.{IsOf}
 
 -- whether data differ from the first reading's
 abbrev differs : List ℕ → NotedReading → Bool

@@ -9,7 +9,8 @@ use Rattle.turn_merge.specs.declared.verdict.Place.{Place}
 use Rattle.turn_merge.specs.declared.verdict.Verdict.{Verdict}
 use Rattle.turn_merge.specs.declared.verdict.Verdict.TheVariants.{Missing}
 use Rattle.turn_merge.specs.Readings.{NotedReading, good_reading, bad_reading, good_ones, bad_ones, verdict, agreed}
-use Rattle.turn_merge.specs.Book.{Found, Knowledge, IsKnown, found_at, StandsFor, part, kept, IsOf, found_from}
+use Rattle.turn_merge.specs.Book.{Found, Knowledge, IsKnown, found_at, StandsFor, part, kept, found_from}
+use Rattle.turn_merge.specs.inside.Book.{IsOf}
 
 -- what contracts see of a book's fields
 abbrev pub book_of : (first n size notes : ℕ) (vs : List Verdict) (bs : List ℕ) → Knowledge

@@ -6,7 +6,8 @@ use Rattle.turn_merge.specs.declared.verdict.Place.{Place}
 use Rattle.turn_merge.specs.declared.verdict.Verdict.{Verdict}
 use Rattle.turn_merge.specs.declared.verdict.Verdict.TheVariants.{Good, Contradictory, Bad, Missing}
 use Rattle.turn_merge.specs.Readings.{NotedReading, good_reading, bad_reading, good_ones, bad_ones, verdict, agreed}
-use Rattle.turn_merge.specs.Book.{Knowledge, IsKnown, StandsFor, HasShape, MOST_NOTES, part, IsOf, counted, kept, Found}
+use Rattle.turn_merge.specs.Book.{Knowledge, IsKnown, StandsFor, HasShape, MOST_NOTES, part, counted, kept, Found}
+use Rattle.turn_merge.specs.inside.Book.{IsOf}
 use Rattle.turn_merge.proofs.Knowing.{book_of, known_below, found_at_is, length-found, stands_from, stands_more, good_ones-good, bad_ones-good, good_ones-bad, bad_ones-bad}
 
 -- the index of a known sector

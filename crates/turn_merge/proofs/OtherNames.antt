@@ -9,7 +9,8 @@ use Rattle.std.proofs.lemmas.Map.Views.{any-filter_same}
 use Rattle.flux_base.specs.declared.header_name.HeaderName.{HeaderName}
 use Rattle.flux_base.specs.lemmas.Items.{any_next, read_next, same_bool, set_next}
 use Rattle.flux_base.specs.declared.header_name.HeaderName.TheVariants.{Address, TrackSector, TrackSectorSide}
-use Rattle.turn_merge.specs.Others.{AreBelow, MOST_TOLD, NotedOther, OthersKnown, OthersStandFor, first_ones, has_name, is_told, of_name, others_over, same_name, told_of, whole_ones, with_header}
+use Rattle.turn_merge.specs.Others.{AreBelow, MOST_TOLD, NotedOther, OthersKnown, OthersStandFor, first_ones, has_name, is_told, of_name, others_over, same_name, told_of, whole_ones}
+use Rattle.turn_merge.specs.inside.Others.{with_header}
 use Rattle.turn_merge.specs.declared.others.OtherTold.{OtherTold}
 use Rattle.turn_merge.specs.declared.verdict.Place.{Place}
 

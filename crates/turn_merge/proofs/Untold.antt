@@ -5,7 +5,8 @@ use Rattle.std.proofs.lemmas.Bool.{lt-ltb}
 use Rattle.std.proofs.lemmas.List.{length-map, length-take, take_all}
 use Rattle.std.proofs.lemmas.List.Folds.{list_any-append}
 use Rattle.flux_base.specs.declared.header_name.HeaderName.{HeaderName}
-use Rattle.turn_merge.specs.Others.{DataAreKnown, MOST_TOLD, NotedOther, OthersKnown, OthersStandFor, first_ones, has_data, has_name, has_untold, is_told, others_over, told_of, same_name, with_header}
+use Rattle.turn_merge.specs.Others.{DataAreKnown, MOST_TOLD, NotedOther, OthersKnown, OthersStandFor, first_ones, has_data, has_name, has_untold, is_told, others_over, told_of, same_name}
+use Rattle.turn_merge.specs.inside.Others.{with_header}
 use Rattle.turn_merge.specs.declared.others.OtherTold.{OtherTold}
 use Rattle.turn_merge.specs.declared.verdict.Place.{Place}
 use Rattle.turn_merge.proofs.OtherNames.{first_more, fresh, met, met_first, name_itself, told_again, told_first, told_full, told_new}

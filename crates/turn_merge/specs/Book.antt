@@ -4,7 +4,7 @@ use Rattle.std.specs.Prelude.{slice_index_or, take, drop, map, Option, Some, Non
 use Rattle.std.specs.List.{range_with_len}
 use Rattle.turn_merge.specs.declared.verdict.Verdict.{Verdict}
 use Rattle.turn_merge.specs.declared.verdict.Verdict.TheVariants.{Good, Contradictory, Bad, Missing}
-use Rattle.turn_merge.specs.Readings.{NotedReading, verdict_of, agreed_of, verdict, agreed}
+use Rattle.turn_merge.specs.Readings.{NotedReading, verdict, agreed}
 
 -- what is known of one sector: the verdict over its readings so far, and
 -- the data that all good ones hold
@@ -79,11 +79,6 @@ kept (Good good bad first) held = Some held
 kept (Contradictory good bad first other) held = None
 kept (Bad bad first) held = None
 kept Missing held = None
-
--- a verdict, and the data held beside it, are those of these good and bad readings of a sector
-pub record IsOf (outcome : Verdict) (held : List ℕ) (good bad : List NotedReading) : Type 0 where
-  pub is : outcome ≡ verdict_of good bad
-  pub bytes : kept outcome held ≡ agreed_of good
 
 -- what is known of each of the first sectors, from the verdicts and the bytes of all
 abbrev pub found_from : ℕ → ℕ → List Verdict → List ℕ → List Found

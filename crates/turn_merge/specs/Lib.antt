@@ -1,3 +1,4 @@
 pub mod Readings
 pub mod Book
 pub mod Others
+pub mod inside

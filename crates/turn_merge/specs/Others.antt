@@ -1,5 +1,5 @@
 -- Headers that name none of a track's sectors: what is told of them, by their names.
-use Rattle.std.specs.Prelude.{◌≡◌, ◌<◌, ℕ, ◌+◌, Bool, false, not, cond, ◌&&◌, ◌||◌, List, [], ◌∷◌}
+use Rattle.std.specs.Prelude.{◌≡◌, ◌<◌, ℕ, Bool, false, not, ◌&&◌, ◌||◌, List, [], ◌∷◌}
 use Rattle.std.specs.Prelude.{◌++◌, length, take, map, filter, nat_eq, nat_lt, All}
 use Rattle.std.specs.List.{list_any}
 use Rattle.flux_base.specs.declared.header_name.HeaderName.{HeaderName}
@@ -93,18 +93,6 @@ pub record OthersStandFor (known : OthersKnown) (others : List NotedOther) : Typ
 abbrev pub AppendsOther : OthersKnown → OthersKnown → NotedOther → Type 0
 AppendsOther old new other = (others : List NotedOther) → OthersStandFor old others
     → OthersStandFor new (others ++ other ∷ [])
-
--- what is told of a name with one more header, where that has this name
-abbrev pub with_header : HeaderName → Bool → OtherTold → OtherTold
-with_header name whole told =
-    cond (same_name told.name name)
-    (record {
-      name = told.name;
-      headers = told.headers + 1;
-      whole = told.whole + cond whole 1 0;
-      first = told.first;
-    })
-    told
 
 -- all numbers are below this one
 abbrev pub AreBelow : ℕ → List OtherTold → Type 0

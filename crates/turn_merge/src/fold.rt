@@ -1,6 +1,7 @@
 ghost use Rattle.std.specs.Prelude.{◌≡◌, ◌≢◌, ℕ, ◌+◌, ◌*◌, ◌^◌, ◌<◌, ◌≤◌, List, [], ◌∷◌, ◌++◌, length};
 ghost use Rattle.turn_merge.specs.Readings.{NotedReading, good_reading, bad_reading};
-ghost use Rattle.turn_merge.specs.Book.{counted, part, IsOf};
+ghost use Rattle.turn_merge.specs.Book.{counted, part};
+ghost use Rattle.turn_merge.specs.inside.Book.{IsOf};
 
 use crate::verdict::{Place, Verdict};
 

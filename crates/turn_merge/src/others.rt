@@ -3,7 +3,8 @@
 ghost use Rattle.std.specs.Prelude.{◌≡◌, ◌+◌, ◌<◌, [], map, cond, IfOk};
 ghost use Rattle.turn_merge.specs.Book.{MOST_NOTES};
 ghost use Rattle.turn_merge.specs.Others.{AppendsOther, AreBelow, DataAreKnown, OthersStandFor, has_data, is_told};
-ghost use Rattle.turn_merge.specs.Others.{same_name, with_header};
+ghost use Rattle.turn_merge.specs.Others.{same_name};
+ghost use Rattle.turn_merge.specs.inside.Others.{with_header};
 
 use crate::verdict::Place;
 use flux_base::{HeaderName, Memory};

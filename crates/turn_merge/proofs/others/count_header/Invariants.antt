@@ -1,5 +1,6 @@
 use Rattle.std.proofs.Common.{◌≡◌, ◌++◌, map, take, drop}
-use Rattle.turn_merge.specs.Others.{is_told, with_header}
+use Rattle.turn_merge.specs.Others.{is_told}
+use Rattle.turn_merge.specs.inside.Others.{with_header}
 use Rattle.turn_merge.proofs.others.count_header.Given as goal
 
 abbrev pub invariant-loop-other : goal.invariant-loop-other

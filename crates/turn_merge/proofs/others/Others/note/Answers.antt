@@ -1,6 +1,7 @@
 use Rattle.std.proofs.Common.{rules, Bool, true, false, ◌≡◌, ◌<◌, ◌+◌, ◌++◌, ◌∷◌, [], List, ℕ, length, map, cond, ap, arith, sym, subst, ◌∙◌}
 use Rattle.std.proofs.lemmas.List.{with_items_is}
-use Rattle.turn_merge.specs.Others.{AreBelow, is_told, with_header}
+use Rattle.turn_merge.specs.Others.{AreBelow, is_told}
+use Rattle.turn_merge.specs.inside.Others.{with_header}
 use Rattle.turn_merge.specs.declared.others.OtherTold.{OtherTold}
 use Rattle.turn_merge.proofs.OtherNames.{below_few, below_more_all, below_push}
 use Rattle.turn_merge.proofs.Untold.{stands_again, stands_full, stands_new}
