@@ -27,7 +27,8 @@ KNOWN = [
     ("ibm-1440", "pc", "img", b"35  DSHD", True), ("ibm-720", "msx", "dsk", b"35  DSDD", True), ("ibm-720", "ql", "dsk", b"35  DSDD", True),
     ("atari-st-800", "st", "st", b"35  DSDD", False), ("acorn-dfs-40", "ssd", "ssd", b"525 SSQD", True), ("acorn-dfs-80", "ssd", "ssd", b"525 DSQD", True),
     ("cpc-data", "dsk", "dsk", b"", False), ("cpc-system", "dsk", "dsk", b"", False), ("amiga-hd", "adf", "adf", b"35  DSHD", True),
-    ("c1571", "d71", "d71", b"525 DSSD", True), ("mac-400", "apple_gcr", "dsk", b"35  SSDD", True), ("mac-800", "apple_gcr", "dsk", b"35  DSDD", True),
+    ("c1571", "d71", "d71", b"525 DSSD", True), ("c8050", "d80", "d80", b"525 SSQD", True), ("c8250", "d82", "d82", b"525 DSQD", True),
+    ("mac-400", "apple_gcr", "dsk", b"35  SSDD", True), ("mac-800", "apple_gcr", "dsk", b"35  DSDD", True),
     # by their numbers: the PC-98, FM Towns and X68000; the Atari ST; Acorn's ADFS; Sam Coupe, TR-DOS, Opus, CoCo, Acorn's Atom, DEC's Rainbow
     ("mfm-hd360-77x2x8x1024", "pc98", "hdm", b"525 DSHD", True), ("mfm-hd360-77x2x8x1024", "fmtowns", "bin", b"35  DSHD", True),
     ("mfm-hd360-77x2x8x1024", "xdf", "xdf", b"525 DSHD", True), ("mfm-hd360-80x2x15x512", "pc98", "img", b"525 DSHD", True),

@@ -18,7 +18,8 @@ TRACKS = {
     "apple-dos33": (330, 3105, 96),
     "apple-prodos": (330, 3105, 96),
 }
-COMMODORE = {21: (30, 2928, 78), 19: (30, 3000, 84), 18: (30, 2960, 90), 17: (30, 2936, 96)}
+COMMODORE = {21: (30, 2928, 78), 19: (30, 3000, 84), 18: (30, 2960, 90), 17: (30, 2936, 96),
+             29: (30, 3176, 52), 27: (30, 3168, 56), 25: (30, 3200, 60), 23: (30, 3256, 64)}
 MACINTOSH = {12: (160, 5988, 62), 11: (160, 5988, 68), 10: (160, 5988, 75), 9: (160, 5988, 83), 8: (160, 5988, 94)}
 
 # Disks: the format; the tracks, in turn how many have no sector and the cylinder and head of a good one; how many bytes the image has; and some lines with their numbers from 0
@@ -47,6 +48,11 @@ DISKS = [
     # The second side follows the first, with its own tracks' numbers.
     ("c1571", [34, "34.0", "00.1", 34], 349696, {666: "34.0 00 good 3 0 1 30", 683: "00.1 00 good 3 0 1 30",
                                                  1366: "total 1366 good 38 bad 0 missing 1328 contradictory 0"}),
+    # The first track of each zone, and of the second side the last track
+    ("c8050", ["00.0", 38, "39.0", 13, "53.0", 10, "64.0", 12], 533248, {0: "00.0 00 good 3 0 1 30", 28: "00.0 28 good 3 0 1 88958", 2082: "76.0 22 missing 0 0",
+                                                                         2083: "total 2083 good 104 bad 0 missing 1979 contradictory 0"}),
+    ("c8250", [76, "76.0", "00.1", 75, "76.1"], 1066496, {2060: "76.0 00 good 3 0 1 30", 2083: "00.1 00 good 3 0 1 30", 4165: "76.1 22 good 3 0 1 71662",
+                                                          4166: "total 4166 good 75 bad 0 missing 4091 contradictory 0"}),
     ("apple-do", ["00.0", 33, "34.0"], 143360, {0: "00.0 00 good 3 0 1 330", 15: "00.0 15 good 3 0 1 46890",
                                                 560: "total 560 good 32 bad 0 missing 528 contradictory 0"}),
     ("apple-po", ["00.0", 33, "34.0"], 143360, {0: "00.0 00 good 3 0 1 330", 15: "00.0 15 good 3 0 1 46890",
@@ -65,7 +71,7 @@ DISKS = [
 
 def numbers_of(word, sectors):
     """The numbers of a track with so many sectors."""
-    zones = COMMODORE if word.startswith("c15") else MACINTOSH if word.startswith("mac-") else {}
+    zones = COMMODORE if word.startswith(("c15", "c8")) else MACINTOSH if word.startswith("mac-") else {}
     return zones.get(sectors) or TRACKS[word]
 
 

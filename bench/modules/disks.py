@@ -174,7 +174,7 @@ def amiga_mfm(cylinder, head, sectors):
 # Commodore 1541
 
 CODES = "01010 01011 10010 10011 01110 01111 10110 10111 01001 11001 11010 11011 01101 11101 11110 10101".split()
-GAPS = {21: 12, 19: 21, 18: 16, 17: 13}
+GAPS = {21: 12, 19: 21, 18: 16, 17: 13, 29: 43, 27: 42, 25: 46, 23: 53}
 
 
 def xor_of(data):
@@ -185,14 +185,17 @@ def gcr(data):
     return "".join(CODES[byte >> 4] + CODES[byte & 15] for byte in data)
 
 
-def commodore_gcr(cylinder, head, sectors):
-    id1, id2 = 0x41, 0x42
-    out = ""
-    for number, data in enumerate(sectors):
-        names = bytes([number, cylinder + 1 + 35 * head, id2, id1])
-        out += "1" * 40 + gcr(bytes([8, xor_of(names)]) + names + b"\x0f\x0f") + bits(b"\x55" * 9)
-        out += "1" * 40 + gcr(b"\x07" + data + bytes([xor_of(data), 0, 0])) + bits(b"\x55" * GAPS[len(sectors)])
-    return out
+def commodore_gcr(side):
+    """The rings of a disk of which a side has so many tracks."""
+    def ring(cylinder, head, sectors):
+        id1, id2 = 0x41, 0x42
+        out = ""
+        for number, data in enumerate(sectors):
+            names = bytes([number, cylinder + 1 + side * head, id2, id1])
+            out += "1" * 40 + gcr(bytes([8, xor_of(names)]) + names + b"\x0f\x0f") + bits(b"\x55" * 9)
+            out += "1" * 40 + gcr(b"\x07" + data + bytes([xor_of(data), 0, 0])) + bits(b"\x55" * GAPS[len(sectors)])
+        return out
+    return ring
 
 
 # Apple
@@ -287,7 +290,12 @@ def by_zone(values):
     return lambda cylinder: values[(cylinder >= 17) + (cylinder >= 24) + (cylinder >= 30)]
 
 
+def by_zone_of_8050(values):
+    return lambda cylinder: values[(cylinder >= 39) + (cylinder >= 53) + (cylinder >= 64)]
+
+
 ZONE_SECTORS, ZONE_CELLS = by_zone((21, 19, 18, 17)), by_zone((3.25, 3.5, 3.75, 4))
+SECTORS_8050, CELLS_8050 = by_zone_of_8050((29, 27, 25, 23)), by_zone_of_8050((26 / 12, 28 / 12, 30 / 12, 32 / 12))
 MAC_CELLS = (76946, 70688, 64230, 57742, 51384)
 DOS = (0, 7, 14, 6, 13, 5, 12, 4, 11, 3, 10, 2, 9, 1, 8, 15)
 PRODOS = (0, 8, 1, 9, 2, 10, 3, 11, 4, 12, 5, 13, 6, 14, 7, 15)
@@ -317,9 +325,11 @@ FORMATS = Formats({
     "ibm-1440": Format(ibm_mfm(108, 78), 80, 2, 512, lambda _: 18, lambda _: 1),
     "amiga": Format(amiga_mfm, 80, 2, 512, lambda _: 11, lambda _: 2),
     "amiga-hd": Format(amiga_mfm, 80, 2, 512, lambda _: 22, lambda _: 1),
-    "c1541": Format(commodore_gcr, 35, 1, 256, ZONE_SECTORS, ZONE_CELLS),
-    "c1541-40": Format(commodore_gcr, 40, 1, 256, ZONE_SECTORS, ZONE_CELLS),
-    "c1571": Format(commodore_gcr, 35, 2, 256, ZONE_SECTORS, ZONE_CELLS, by_head=True),
+    "c1541": Format(commodore_gcr(35), 35, 1, 256, ZONE_SECTORS, ZONE_CELLS),
+    "c1541-40": Format(commodore_gcr(35), 40, 1, 256, ZONE_SECTORS, ZONE_CELLS),
+    "c1571": Format(commodore_gcr(35), 35, 2, 256, ZONE_SECTORS, ZONE_CELLS, by_head=True),
+    "c8050": Format(commodore_gcr(77), 77, 1, 256, SECTORS_8050, CELLS_8050),
+    "c8250": Format(commodore_gcr(77), 77, 2, 256, SECTORS_8050, CELLS_8050, by_head=True),
     "apple-do": Format(apple_gcr, 35, 1, 256, lambda _: 16, lambda _: 4, DOS),
     "apple-po": Format(apple_gcr, 35, 1, 256, lambda _: 16, lambda _: 4, PRODOS),
     "ibm-160": Format(ibm_mfm(80, 872), 40, 1, 512, lambda _: 8, lambda _: 2),

@@ -8,7 +8,7 @@ import itertools
 import re
 import struct
 
-from plain_recordings import AmigaMfm, AppleGcr, CommodoreGcr, IbmFm, IbmMfm, MacintoshGcr, places_of, word
+from plain_recordings import DRIVE_8050, AmigaMfm, AppleGcr, CommodoreGcr, IbmFm, IbmMfm, MacintoshGcr, places_of, word
 from plain_streams import LIMIT, Refused, Stream, number_at, padding_at, places_of_ones, recovered, stream_of_times
 
 # Formats
@@ -35,8 +35,8 @@ class Format:
         sectors = [image[start + size * self.slot(s) : start + size * self.slot(s) + size] for s in self.sector_numbers(k)]
         ids = None
         if isinstance(self.recording, CommodoreGcr):
-            directory = self.places[17]
-            ids = (image[directory + 0xA2], image[directory + 0xA3])
+            directory = self.places[self.recording.drive.id_track - 1] + self.recording.drive.id_byte
+            ids = (image[directory], image[directory + 1])
         return self.recording.ring(*self.tracks[k], sectors, ids)
 
 
@@ -49,6 +49,8 @@ def always(value):
 
 
 ZONE_CELLS, ZONE_RINGS = zone((79963, 86114, 92265, 98416)), zone((61488, 57000, 53280, 49912))
+CELLS_8050 = lambda cylinder: (53308, 57409, 61510, 65610)[DRIVE_8050.zone(cylinder)]
+RINGS_8050 = lambda cylinder: (92104, 85536, 80000, 74888)[DRIVE_8050.zone(cylinder)]
 DOS = [0x0, 0x7, 0xE, 0x6, 0xD, 0x5, 0xC, 0x4, 0xB, 0x3, 0xA, 0x2, 0x9, 0x1, 0x8, 0xF]
 PRODOS = [0x0, 0x8, 0x1, 0x9, 0x2, 0xA, 0x3, 0xB, 0x4, 0xC, 0x5, 0xD, 0x6, 0xE, 0x7, 0xF]
 
@@ -152,6 +154,8 @@ FORMATS = Formats((form.word, form) for form in (
     Format("mac-800", MacintoshGcr(2), 80, 2, MAC_CELLS, MAC_RINGS),
     Format("c1571", CommodoreGcr(), 35, 2, ZONE_CELLS, ZONE_RINGS, by_head=True),
     Format("amiga-hd", AmigaMfm(22, 532), 80, 2, always(24604), always(200000)),
+    Format("c8050", CommodoreGcr(DRIVE_8050), 77, 1, CELLS_8050, RINGS_8050),
+    Format("c8250", CommodoreGcr(DRIVE_8050), 77, 2, CELLS_8050, RINGS_8050, by_head=True),
 ))
 
 

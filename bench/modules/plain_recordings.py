@@ -309,12 +309,31 @@ def raw(data):
     return "".join(word(byte, 8) for byte in data)
 
 
+class CommodoreDrive:
+    """The cylinders at which zones end, the sectors and the gaps of each, the tracks of a side, and where the id stands."""
+
+    def __init__(self, ends, counts, gaps, side, id_track, id_byte):
+        self.ends, self.counts, self.gaps, self.side, self.id_track, self.id_byte = ends, counts, gaps, side, id_track, id_byte
+
+    def zone(self, cylinder):
+        return sum(cylinder >= end for end in self.ends)
+
+
+DRIVE_1541 = CommodoreDrive((17, 24, 30), (21, 19, 18, 17), (12, 21, 16, 13), 35, 18, 0xA2)
+DRIVE_8050 = CommodoreDrive((39, 53, 64), (29, 27, 25, 23), (43, 42, 46, 53), 77, 39, 0x18)
+
+
 class CommodoreGcr(Recording):
     first, size, sync, data_syncs = 0, 256, "1" * 10 + "0", ["1" * 10 + "0"]
-    GAPS = {21: 12, 19: 21, 18: 16, 17: 13}
+
+    def __init__(self, drive=DRIVE_1541):
+        self.drive = drive
 
     def sectors(self, cylinder):
-        return 21 if cylinder < 17 else 19 if cylinder < 24 else 18 if cylinder < 30 else 17
+        return self.drive.counts[self.drive.zone(cylinder)]
+
+    def number(self, cylinder, head):
+        return cylinder + 1 + self.drive.side * head
 
     def name(self, cells, place):
         field = ungcr(cells, place + 10, 6)
@@ -323,7 +342,7 @@ class CommodoreGcr(Recording):
         return (field[3], field[2]), place + 70
 
     def own(self, name, cylinder, head):
-        return name[1] if name[0] == cylinder + 1 + 35 * head and name[1] < self.sectors(cylinder) else None
+        return name[1] if name[0] == self.number(cylinder, head) and name[1] < self.sectors(cylinder) else None
 
     def content(self, cells, place, q, size):
         field = ungcr(cells, q + 10, 258)
@@ -334,9 +353,9 @@ class CommodoreGcr(Recording):
     def ring(self, cylinder, head, sectors, ids=(0, 0)):
         out = ""
         for number, data in enumerate(sectors):
-            names = bytes([number, cylinder + 1 + 35 * head, ids[1], ids[0]])
+            names = bytes([number, self.number(cylinder, head), ids[1], ids[0]])
             out += "1" * 40 + gcr(bytes([8, xor_of(names)]) + names + b"\x0f\x0f") + raw(b"\x55" * 9)
-            out += "1" * 40 + gcr(b"\x07" + data + bytes([xor_of(data), 0, 0])) + raw(b"\x55" * self.GAPS[self.sectors(cylinder)])
+            out += "1" * 40 + gcr(b"\x07" + data + bytes([xor_of(data), 0, 0])) + raw(b"\x55" * self.drive.gaps[self.drive.zone(cylinder)])
         return out
 
 

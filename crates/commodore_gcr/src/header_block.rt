@@ -48,11 +48,11 @@ fn header_bytes_at(frame: &CellsFrom) -> Option<[u8; 6]>
 
 /// The header block of a sector.
 pub(crate) fn header_block(disk: CommodoreGcr, track: TrackId, sector: u8) -> [u8; 8]
-    requires { IsCommodoreTrack track }
-    ensures { result ≡ block_of_header disk.id1 disk.id2 track sector }
+    requires { IsCommodoreTrack disk.drive track }
+    ensures { result ≡ block_of_header disk.drive disk.id1 disk.id2 track sector }
 {
-    let CommodoreGcr { id1, id2 } = disk;
-    let number = track_number(track);
+    let CommodoreGcr { drive, id1, id2 } = disk;
+    let number = track_number(drive, track);
     let check = xor_bytes(&[sector, number, id2, id1]);
     [
         HEADER_BYTE,

@@ -38,9 +38,6 @@ pub(crate) const SECTOR: [Row; 9] = [
 /// After the last sector: nothing.
 pub(crate) const LEAD_OUT: [Row; 0] = [];
 
-/// The tracks of a side, as headers number them on.
-pub(crate) const SIDE_TRACKS: u8 = 35;
-
 /// The cells of a sector's rows but for those of the zone's gap.
 pub(crate) const SECTOR_CELLS: u32 = 2832;
 

@@ -10,28 +10,30 @@ ghost use Rattle.commodore_gcr.specs.lemmas.RowLaws.{row_follows, row_length};
 ghost use Rattle.commodore_gcr.specs.Sectors.{Hold, IsSync, Names, NamesSector};
 ghost use Rattle.commodore_gcr.specs.lemmas.Syncs.{own_syncs};
 ghost use Rattle.commodore_gcr.specs.lemmas.ZoneLaws.{counts, sums};
-ghost use Rattle.commodore_gcr.specs.Zones.{IsCommodoreTrack, sectors_of, track_number as number_of_track, zone_of};
+ghost use Rattle.commodore_gcr.specs.Zones.{IsCommodoreTrack, sectors_of, track_number as number_of_track, zone_of as zone_of_track};
 
 use crate::data_block::{next_sync, read_block};
+use crate::drive::CommodoreDrive;
 use crate::header_block::header_name;
 use crate::layout::{
     CODING, DATA_CELLS, HEADER_CELLS, LEAD_IN, LEAD_OUT, Row, SECTOR, SECTOR_SIZE,
 };
 use crate::rows::push_row;
-use crate::zones::track_number;
+use crate::zones::{track_number, zone_of};
 use cell_bits::Cells;
-use disk_zones::commodore_zone;
 use flux_base::{HeaderName, Memory, TrackId};
 use frame_law::{CellsFrom, Coding, Layout, SectorBuffer, SectorBytes};
 
-/// The recording of the Commodore 1541's and 1571's disks. Its tracks are the cylinders 0 to 39 with the heads 0 and 1,
-/// of which a 1541's disk has 35 or 40 with head 0, and a 1571's 35 with both; headers number them from 1, and those of
-/// head 1 from 36. Sectors are numbered from 0.
+/// The recording of the disks of Commodore's drives. The tracks of a 1541's or 1571's are the cylinders 0 to 39 with the
+/// heads 0 and 1, of which a 1541's disk has 35 or 40 with head 0, and a 1571's 35 with both; an 8050's has 77 with head 0,
+/// and an 8250's with both. Headers number them from 1, and those of head 1 from 36 or from 78. Sectors are numbered from 0.
 ///
 /// Each header has the two bytes of the disk's id. They are written, and are not looked at when a sector is
 /// read but through the header's check value: what stands is the same for all ids.
 #[derive(Clone, Copy, Debug, PartialEq, Eq)]
 pub struct CommodoreGcr {
+    /// The kind of the drive.
+    pub drive: CommodoreDrive,
     /// The first character of the id.
     pub id1: u8,
     /// The second character of the id.
@@ -45,21 +47,21 @@ impl Layout for CommodoreGcr {
 
     ghost CODING = { record { shortest = 1; longest = 3; sync = 0x7FE; sync_cells = 11 } };
 
-    ghost has_track = { λ r track. IsCommodoreTrack track };
+    ghost has_track = { λ r track. IsCommodoreTrack r.drive track };
 
     ghost lowest_sector = { λ r. 0 };
 
-    ghost sector_count = { λ r track. sectors_of track };
+    ghost sector_count = { λ r track. sectors_of r.drive track };
 
     ghost sector_bytes = { λ r. 256 };
 
-    ghost track_cells = { λ r track. ring_cells_of track };
+    ghost track_cells = { λ r track. ring_cells_of r.drive track };
 
-    ghost names_sector = { λ r track cells s. NamesSector track cells s };
+    ghost names_sector = { λ r track cells s. NamesSector r.drive track cells s };
 
     ghost names = { λ r cells name. Names cells name };
 
-    ghost is_name_of = { λ r track name s. name ≡ TrackSector (number_of_track track) s };
+    ghost is_name_of = { λ r track name s. name ≡ TrackSector (number_of_track r.drive track) s };
 
     ghost is_sync = { λ r cells place. IsSync cells place };
 
@@ -83,7 +85,7 @@ impl Layout for CommodoreGcr {
 
     ghost row_cells = { λ r track before s bytes row. row_cells r track before s bytes row };
 
-    ghost row_size = { λ r track count row. row_size (zone_of track) count row };
+    ghost row_size = { λ r track count row. row_size (zone_of_track r.drive track) count row };
 
     ghost last_zeros = { 1 };
 
@@ -92,7 +94,7 @@ impl Layout for CommodoreGcr {
     }
 
     fn sector_count(&self, track: TrackId) -> u8 {
-        commodore_zone(track.cylinder).sectors
+        zone_of(self.drive, track).sectors
     }
 
     fn sector_bytes(&self) -> u16 {
@@ -104,7 +106,7 @@ impl Layout for CommodoreGcr {
     }
 
     fn track_cells(&self, track: TrackId) -> u32 {
-        commodore_zone(track.cylinder).ring_cells
+        zone_of(self.drive, track).ring_cells
     }
 
     fn lead_in(&self, _track: TrackId) -> &[Row] {
@@ -132,7 +134,7 @@ impl Layout for CommodoreGcr {
     }
 
     fn sector_named(&self, track: TrackId, name: HeaderName) -> Option<u8> {
-        name.sector_of_track(track_number(track))
+        name.sector_of_track(track_number(self.drive, track))
     }
 
     fn next_sync(&self, frame: &CellsFrom, from: usize, to: usize) -> Option<usize> {
@@ -160,11 +162,11 @@ impl Layout for CommodoreGcr {
 
     ghost sizes = { sizes };
 
-    ghost counts = { λ r track known. counts track };
+    ghost counts = { λ r track known. counts r.drive track };
 
     ghost reach = { λ r. within_reach };
 
-    ghost sums = { λ r track known. sums track };
+    ghost sums = { λ r track known. sums r.drive track };
 
     ghost row_length = { λ r track before s bytes row. row_length r track before s bytes row };
 
@@ -172,7 +174,7 @@ impl Layout for CommodoreGcr {
 
     ghost ends = { λ r track before known. refl };
 
-    ghost named_sector = { λ r track. named_sector track };
+    ghost named_sector = { λ r track. named_sector r.drive track };
 
     ghost own_size = { λ r track name s is. refl };
 

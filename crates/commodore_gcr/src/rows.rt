@@ -24,7 +24,7 @@ pub(crate) fn push_row(
     sector: u8,
     bytes: &[u8],
 ) -> Result<(), Memory>
-    requires { IsCommodoreTrack track }
+    requires { IsCommodoreTrack disk.drive track }
     ensures { AppendsCells cells.old cells.new (row_cells disk track false sector bytes.now row) result }
 {
     match row {
@@ -34,7 +34,7 @@ pub(crate) fn push_row(
         Row::HeaderGap => push_gap(cells, HEADER_GAP),
         Row::DataBytes => push_data(cells, bytes),
         Row::DataFill => push_bytes(cells, &[DATA_FILL, DATA_FILL]),
-        Row::ZoneGap => push_gap(cells, zone_gap(track)),
+        Row::ZoneGap => push_gap(cells, zone_gap(disk.drive, track)),
     }
 }
 

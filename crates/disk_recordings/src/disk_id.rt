@@ -1,4 +1,6 @@
-/// The two bytes of the id of a Commodore 1541's or 1571's disk. No other disk has one.
+use flux_base::TrackId;
+
+/// The two bytes of the id of a disk of one of Commodore's drives. No other disk has one.
 #[derive(Clone, Copy, Debug, PartialEq, Eq)]
 pub struct DiskId {
     /// The first character.
@@ -13,4 +15,13 @@ impl DiskId {
         first: 0,
         second: 0,
     };
+}
+
+/// Where an image has its disk's id: in sector 0 of a track.
+#[derive(Clone, Copy, Debug)]
+pub struct IdPlace {
+    /// The track.
+    pub track: TrackId,
+    /// The byte of the sector that has the first character. The second one stands behind it.
+    pub byte: u8,
 }

@@ -8,11 +8,11 @@ mod meaning;
 mod recordings;
 mod sectors;
 
-pub use disk_id::DiskId;
+pub use disk_id::{DiskId, IdPlace};
 pub use laws::{
     apple_disks_are_read_too, headers_have_names, rewritten_tracks_are_read,
     rewritten_tracks_have_only_own, tracks_are_read, tracks_have_no_others, tracks_have_only_own,
     tracks_have_rings,
 };
-pub use recordings::{DiskRecording, controller_format, has_id, recording_of};
+pub use recordings::{DiskRecording, controller_format, id_place, recording_of};
 pub use sectors::{Sectors, sectors_of};

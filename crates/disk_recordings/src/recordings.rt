@@ -1,22 +1,42 @@
 //! The recordings, and which of them each format has.
 
-ghost use Rattle.std.specs.Prelude.{◌≡◌, IsTrue, IsFalse};
-ghost use Rattle.disk_recordings.specs.Agreement.{Agrees, HasDirectory, HasNoId};
+ghost use Rattle.std.specs.Prelude.{◌≡◌, IfNone, IfSome};
+ghost use Rattle.disk_recordings.specs.Agreement.{Agrees, HasNoId, IsIdPlace};
+ghost use Rattle.disk_recordings.specs.Ids.{id_place as id_place_in};
 ghost use Rattle.disk_recordings.specs.Members.{as_controllers_read};
-ghost use Rattle.disk_recordings.specs.Recordings.{numbered_by, recording_of as recording_in};
+ghost use Rattle.disk_recordings.specs.Recordings.{commodore_by, numbered_by, recording_of as recording_in};
 ghost use Rattle.ibm_disks.specs.Disks.{rate_of, track_of_disk};
 ghost use Rattle.ibm_disks.specs.Plans.{density_of};
 
-use crate::disk_id::DiskId;
+use crate::disk_id::{DiskId, IdPlace};
 use amiga_mfm::AmigaMfm;
 use apple_gcr::AppleGcr;
-use commodore_gcr::CommodoreGcr;
+use commodore_gcr::{CommodoreDrive, CommodoreGcr};
 use either::{Either, Left, Right};
+use flux_base::TrackId;
 use ibm_disks::{Density, IbmDisk};
 use ibm_fm::IbmFm;
 use ibm_mfm::IbmMfm;
 use macintosh_gcr::MacintoshGcr;
 use sector_images::Format;
+
+/// Where a Commodore 1541's or 1571's disk has its id: in track 18, counted from 1.
+const ID_OF_1541: IdPlace = IdPlace {
+    track: TrackId {
+        cylinder: 17,
+        head: 0,
+    },
+    byte: 0xA2,
+};
+
+/// Where an 8050's or 8250's has its id: in track 39.
+const ID_OF_8050: IdPlace = IdPlace {
+    track: TrackId {
+        cylinder: 38,
+        head: 0,
+    },
+    byte: 0x18,
+};
 
 /// One of the recordings.
 pub type DiskRecording = Either<
@@ -36,12 +56,8 @@ pub fn recording_of(format: Format, id: DiskId) -> DiskRecording
         Format::Ibm1440 => Right(Left(IbmMfm::PC_18)),
         Format::Amiga => Right(Right(Left(AmigaMfm::DoubleDensity))),
         Format::AmigaHd => Right(Right(Left(AmigaMfm::HighDensity))),
-        Format::C1541 | Format::C1541Forty | Format::C1571 => {
-            Right(Right(Right(Left(CommodoreGcr {
-                id1: id.first,
-                id2: id.second,
-            }))))
-        }
+        Format::C1541 | Format::C1541Forty | Format::C1571 => commodore(CommodoreDrive::C1541, id),
+        Format::C8050 | Format::C8250 => commodore(CommodoreDrive::C8050, id),
         Format::AppleDo | Format::ApplePo => Right(Right(Right(Right(Left(AppleGcr::STRICT))))),
         Format::AppleDos33 | Format::AppleProdos => {
             Right(Right(Right(Right(Left(AppleGcr::CONTROLLER)))))
@@ -50,6 +66,17 @@ pub fn recording_of(format: Format, id: DiskId) -> DiskRecording
         Format::Mac800 => Right(Right(Right(Right(Right(MacintoshGcr::DoubleSided))))),
         Format::Numbered(disk) => numbered(disk),
     }
+}
+
+/// That of a disk of one of Commodore's drives.
+fn commodore(drive: CommodoreDrive, id: DiskId) -> DiskRecording
+    ensures { result ≡ commodore_by drive id }
+{
+    Right(Right(Right(Left(CommodoreGcr {
+        drive,
+        id1: id.first,
+        id2: id.second,
+    }))))
 }
 
 /// That of a disk by its numbers.
@@ -63,13 +90,18 @@ fn numbered(disk: IbmDisk) -> DiskRecording
     }
 }
 
-/// Whether the disks of the format have an id, in their directory. The recording of any other format is one for
+/// Where an image of the format has its disk's id, if its disks have one. The recording of any other format is one for
 /// all ids.
-pub fn has_id(format: Format) -> bool
-    ensures yes { IsTrue result → HasDirectory format }
-    ensures no { IsFalse result → HasNoId format }
+pub fn id_place(format: Format) -> Option<IdPlace>
+    ensures place { result ≡ id_place_in format }
+    ensures some { IfSome result (IsIdPlace format) }
+    ensures none { IfNone result (HasNoId format) }
 {
-    matches!(format, Format::C1541 | Format::C1541Forty | Format::C1571)
+    match format {
+        Format::C1541 | Format::C1541Forty | Format::C1571 => Some(ID_OF_1541),
+        Format::C8050 | Format::C8250 => Some(ID_OF_8050),
+        _ => None,
+    }
 }
 
 /// The format as which a controller reads the format's disks: by the second rule a byte of an Apple disk begins at the

@@ -5,6 +5,10 @@ use Rattle.std.specs.Prelude.{ℕ, ◌*◌, ◌/◌}
 abbrev pub fine_units : ℕ → ℕ
 fine_units quarters = quarters * 168192000 * 1024 / (7 * 4000000)
 
+-- a cell of so many periods of a clock of 12 MHz
+abbrev pub fine_units_of_12 : ℕ → ℕ
+fine_units_of_12 periods = periods * 168192000 * 1024 / (7 * 12000000)
+
 -- a cell of which so many take one turn, where a minute has 300
 abbrev pub cell_of_turn : ℕ → ℕ
 cell_of_turn cells = 168192000 * 1024 / (7 * 5 * cells)

@@ -4,4 +4,4 @@
 
 mod zones;
 
-pub use zones::{Zone, commodore_zone, macintosh_zone};
+pub use zones::{Zone, commodore_8050_zone, commodore_zone, macintosh_zone};

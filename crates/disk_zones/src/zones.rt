@@ -1,5 +1,5 @@
 ghost use Rattle.std.specs.Prelude.{◌≡◌};
-ghost use Rattle.disk_zones.specs.Zones.{commodore_zone as zone_of_commodore, macintosh_zone as zone_of_macintosh};
+ghost use Rattle.disk_zones.specs.Zones.{commodore_8050_zone as zone_of_8050, commodore_zone as zone_of_commodore, macintosh_zone as zone_of_macintosh};
 
 /// A zone of a disk: what tracks of neighbouring cylinders have in common.
 #[derive(Clone, Copy, Debug)]
@@ -38,6 +38,36 @@ pub fn commodore_zone(cylinder: u8) -> Zone
             sectors: 17,
             nominal: 98416,
             ring_cells: 49912,
+        },
+    }
+}
+
+/// The zone of a cylinder of a Commodore 8050's disk, of one head or of the 8250's two. Its drive divides a clock of
+/// 12 MHz by 26 to 32.
+#[tactic(auto, unfolding(crate::specs::Zones::commodore_8050_zone))]
+pub fn commodore_8050_zone(cylinder: u8) -> Zone
+    ensures { result ≡ zone_of_8050 cylinder }
+{
+    match cylinder {
+        0..=38 => Zone {
+            sectors: 29,
+            nominal: 53308,
+            ring_cells: 92104,
+        },
+        39..=52 => Zone {
+            sectors: 27,
+            nominal: 57409,
+            ring_cells: 85536,
+        },
+        53..=63 => Zone {
+            sectors: 25,
+            nominal: 61510,
+            ring_cells: 80000,
+        },
+        _ => Zone {
+            sectors: 23,
+            nominal: 65610,
+            ring_cells: 74888,
         },
     }
 }

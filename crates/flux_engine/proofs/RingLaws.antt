@@ -133,11 +133,11 @@ is_stream format image number track ring nominal at made cell =
 
 -- the cells that a format's recording made, with an image's bytes, are the ring of the track
 pub is_made : (format : Format) (track : TrackId) (image bytes : List ℕ) (id : DiskId) (recording : DiskRecording) (result : Result (Unit {0}) Memory) (cells : List Bool)
-    → recording ≡ recording_of format id → recording_of format id ≡ recording_of format (disk_id format image) → bytes ≡ track_bytes format track image
+    → recording ≡ recording_of format id → id ≡ disk_id format image → bytes ≡ track_bytes format track image
     → OnOk result (cells ≡ ghosts.ring recording track bytes) → OnOk result (cells ≡ ring_with format track image)
 is_made format track image bytes id recording result cells is same bytes_are made =
     let ring : ghosts.ring recording track bytes ≡ ring_with format track image =
-    ap (λ (r : DiskRecording). ghosts.ring r track bytes) (is ∙ same) ∙ ap (ring_at format (disk_id format image) track) bytes_are in
+    ap (λ (r : DiskRecording). ghosts.ring r track bytes) (is ∙ ap (recording_of format) same) ∙ ap (ring_at format (disk_id format image) track) bytes_are in
     subst (λ (r : List Bool). OnOk result (cells ≡ r)) ring made
 
 pub is_ring_of : (format : Format) (number : ℕ) (track : TrackId) (image : List ℕ) (result : Result (Unit {0}) Memory) (cells : List Bool)

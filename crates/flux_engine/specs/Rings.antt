@@ -1,10 +1,12 @@
 -- What is written of an image: for each track its ring, with the image's bytes in its sectors, and the stream of the ring.
-use Rattle.std.specs.Prelude.{◌≡◌, ◌≤◌, ◌<◌, ℕ, ◌+◌, All, Bool, List, length, take, drop, flat_map, get_or}
+use Rattle.std.specs.Prelude.{◌≡◌, ◌≤◌, ◌<◌, ℕ, ◌+◌, All, Bool, List, length, take, drop, flat_map, get_or, Option, Some, None}
 use Rattle.std.specs.List.{range_with_len}
 use Rattle.cell_bits.specs.State.{CellsState, room}
-use Rattle.disk_recordings.specs.Agreement.{directory_track}
+use Rattle.disk_recordings.specs.Ids.{id_place}
 use Rattle.disk_recordings.specs.Members.{ring_at}
+use Rattle.disk_recordings.specs.Recordings.{ANY_ID}
 use Rattle.disk_recordings.specs.declared.disk_id.DiskId.{DiskId}
+use Rattle.disk_recordings.specs.declared.disk_id.IdPlace.{IdPlace}
 use Rattle.flux_base.specs.declared.track.TrackId.{TrackId}
 use Rattle.flux_writer.specs.Written.{stream_of}
 use Rattle.track_rings.specs.Rings.{IsSpaced}
@@ -27,20 +29,20 @@ sector_bytes format track image sector = take (row format).sector_size (drop (se
 unfoldable pub track_bytes : Format → TrackId → List ℕ → List ℕ
 track_bytes format track image = flat_map (sector_bytes format track image) (numbers (sectors_of format track))
 
--- where an image of a Commodore 1541's disk has the disk's two ids: in sector 0 of track 18, counted from 1, at the bytes A2
--- and A3
-abbrev pub FIRST_ID : ℕ
-FIRST_ID = 0xA2
+-- the byte that an image has so many bytes behind the beginning of a sector 0
+abbrev pub id_byte : Format → TrackId → List ℕ → ℕ → ℕ
+id_byte format track image offset = get_or image (sector_place format track 0 + offset) 0
 
-abbrev pub SECOND_ID : ℕ
-SECOND_ID = 0xA3
+-- the id of the disk that an image has, where it stands; disks of other formats have none
+abbrev pub id_at : Option IdPlace → Format → List ℕ → DiskId
+id_at (Some place) format image = record {
+  first = id_byte format place.track image place.byte;
+  second = id_byte format place.track image (place.byte + 1);
+}
+id_at None format image = ANY_ID
 
-abbrev pub id_byte : Format → List ℕ → ℕ → ℕ
-id_byte format image offset = get_or image (sector_place format directory_track 0 + offset) 0
-
--- the id of the disk that an image has; disks of other formats have none, and their rings do not hang on it
 abbrev pub disk_id : Format → List ℕ → DiskId
-disk_id format image = record { first = id_byte format image FIRST_ID; second = id_byte format image SECOND_ID }
+disk_id format image = id_at (id_place format) format image
 
 -- the ring of a track with an image's bytes in its sectors
 abbrev pub ring_with : Format → TrackId → List ℕ → List Bool

@@ -1,17 +1,17 @@
 //! The ring of a track, with the bytes of an image in its sectors.
 
-ghost use Rattle.std.specs.Prelude.{◌≡◌, ◌*◌, ◌≤◌, ◌<◌, [], length, OnOk, OnErr, IsOk};
+ghost use Rattle.std.specs.Prelude.{◌≡◌, ◌*◌, ◌≤◌, ◌<◌, [], length, OnOk, OnErr, IsOk, Some};
+ghost use Rattle.disk_recordings.specs.Agreement.{IsIdPlace};
 ghost use Rattle.cell_bits.specs.State.{room};
 ghost use Rattle.track_rings.specs.Rings.{AreSectors};
-ghost use Rattle.disk_recordings.specs.Recordings.{recording_of as recording_in};
 ghost use Rattle.sector_images.specs.Formats.{row};
 ghost use Rattle.sector_images.specs.Places.{IsTrack, tracks};
 ghost use Rattle.flux_engine.specs.Recordings.{sectors_of as sectors_in};
-ghost use Rattle.flux_engine.specs.Rings.{FIRST_ID, SECOND_ID, IsRing, disk_id, ring_cells_of, ring_of, track_bytes};
+ghost use Rattle.flux_engine.specs.Rings.{IsRing, disk_id, id_at, ring_cells_of, ring_of, track_bytes};
 
 use arrayvec::ArrayVec;
 use cell_bits::Cells;
-use disk_recordings::{DiskId, has_id, recording_of, sectors_of, tracks_have_rings};
+use disk_recordings::{DiskId, IdPlace, id_place, recording_of, sectors_of, tracks_have_rings};
 use flux_base::{MOST_TRACK_BYTES, Memory, TrackId};
 use frame_law::Recording;
 use sector_images::{Format, image_place, track_id, tracks_keep_bounds};
@@ -19,21 +19,10 @@ use sector_images::{Format, image_place, track_id, tracks_keep_bounds};
 /// The bytes of a track's sectors, in the order of the sectors' numbers.
 type TrackBytes = ArrayVec<u8, MOST_TRACK_BYTES>;
 
-/// The track of a Commodore 1541's disk whose sector 0 has the disk's two ids: track 18, counted from 1.
-const DIRECTORY_TRACK: TrackId = TrackId {
-    cylinder: 17,
-    head: 0,
-};
-
-/// The byte of that sector with the first id.
-const FIRST_ID: u32 = 0xA2;
-
-/// The byte of that sector with the second id.
-const SECOND_ID: u32 = 0xA3;
-
 /// Makes `cells` the ring of a track of the format, with the bytes of an image in its sectors. The track has
-/// a number from 0 in the format's order. A Commodore 1541's or 1571's disk gets the two ids that its image
-/// has in sector 0 of track 18 at the bytes A2 and A3. After `Memory` the cells are empty.
+/// a number from 0 in the format's order. A disk of one of Commodore's drives gets the id that its image has:
+/// a 1541's or 1571's in sector 0 of track 18 at the bytes A2 and A3, an 8050's or 8250's in sector 0 of track 39
+/// at the bytes 18 and 19. After `Memory` the cells are empty.
 pub fn track_ring(
     format: Format,
     number: u32,
@@ -79,18 +68,28 @@ fn sector_bytes(format: Format, track: TrackId, image: &[u8]) -> TrackBytes
     bytes
 }
 
-/// An id that the disk's ring may have: the one that the image has, where disks of the format have one.
+/// The id that the image has, where disks of the format have one.
 fn id_of(format: Format, image: &[u8]) -> DiskId
     requires image { length image.now ≡ (row format).image_size }
-    ensures { recording_in format result ≡ recording_in format (disk_id format image.now) }
+    ensures { result ≡ disk_id format image.now }
 {
-    if !has_id(format) {
-        return DiskId::ANY;
+    match id_place(format) {
+        Some(place) => id_at(format, image, place),
+        None => DiskId::ANY,
     }
+}
+
+/// The id that the image has at this place.
+fn id_at(format: Format, image: &[u8], place: IdPlace) -> DiskId
+    requires image { length image.now ≡ (row format).image_size }
+    requires place { IsIdPlace format place }
+    ensures { result ≡ id_at (Some place) format image.now }
+{
     tracks_keep_bounds();
-    let directory = image_place(format, DIRECTORY_TRACK, 0);
+    let directory = image_place(format, place.track, 0);
+    let first = directory as usize + usize::from(place.byte);
     DiskId {
-        first: image[(directory + FIRST_ID) as usize],
-        second: image[(directory + SECOND_ID) as usize],
+        first: image[first],
+        second: image[first + 1],
     }
 }

@@ -12,7 +12,7 @@ pub(crate) struct Meaning {
 }
 
 /// All of them. A word that several disks have means the one that is most often met.
-const MEANINGS: [Meaning; 14] = [
+const MEANINGS: [Meaning; 16] = [
     Meaning {
         word: "adf",
         ending: "; try: amiga\n",
@@ -32,6 +32,14 @@ const MEANINGS: [Meaning; 14] = [
     Meaning {
         word: "d81",
         ending: "; a Commodore 1581's disks have none yet\n",
+    },
+    Meaning {
+        word: "d80",
+        ending: "; try: c8050\n",
+    },
+    Meaning {
+        word: "d82",
+        ending: "; try: c8250\n",
     },
     Meaning {
         word: "do",

@@ -6,7 +6,7 @@ use Rattle.std.proofs.lemmas.Bool.{eqb-true}
 use Rattle.std.proofs.lemmas.List.Elements.{All-contains, All-cons, All-nil}
 use Rattle.flux_base.specs.declared.track.TrackId.{TrackId}
 use Rattle.disk_recordings.specs.Members.{place_in_ring}
-use Rattle.disk_zones.specs.Zones.{commodore_zone, macintosh_zone}
+use Rattle.disk_zones.specs.Zones.{commodore_8050_zone, commodore_zone, macintosh_zone}
 use Rattle.disk_recordings.specs.Recordings.{numbered_by}
 use Rattle.disk_recordings.specs.contracts.meaning.DiskRecordingMeaning.TheImpl.{ghosts}
 use Rattle.ibm_disks.specs.Disks.{rate_of, track_of_disk}
@@ -20,7 +20,7 @@ use Rattle.ibm_disks.specs.declared.track_numbers.LeadIn.TheVariants.{Indexed, B
 use Rattle.ibm_disks.specs.declared.track_numbers.TrackNumbers.{TrackNumbers}
 use Rattle.sector_images.specs.Formats.{IsWordOfFormat, row, zone}
 use Rattle.sector_images.specs.declared.format.Format.{Format}
-use Rattle.sector_images.specs.declared.format.Format.TheVariants.{Ibm3740, Ibm360, Ibm720, Ibm1440, Amiga, C1541, C1541Forty, AppleDo, ApplePo, AppleDos33, AppleProdos, Mac400, Mac800, C1571, AmigaHd}
+use Rattle.sector_images.specs.declared.format.Format.TheVariants.{Ibm3740, Ibm360, Ibm720, Ibm1440, Amiga, C1541, C1541Forty, AppleDo, ApplePo, AppleDos33, AppleProdos, Mac400, Mac800, C1571, AmigaHd, C8050, C8250}
 use Rattle.track_rings.specs.Rows.{total}
 use Rattle.law_stated_tables.specs.PlaceLaws.{HasPlaces, NumberedPlacesAreStated, PlacesAreStated}
 use Rattle.law_stated_tables.specs.Places.{StatedPlaces, bytes_around, bytes_before, stated_places}
@@ -63,9 +63,17 @@ abbrev places_at : ℕ → StatedPlaces
 places_at k = get_or stated_places k (record { word = []; first = 0; end = 0; begin = 0; pitch = 0 })
 
 each : All Places stated_places
-unfolding commodore_zone macintosh_zone total
+unfolding commodore_zone commodore_8050_zone macintosh_zone total
 each =
-    let from_23 = All-cons Places (places_at 23) (drop 24 stated_places) (stand (places_at 23) Mac800 refl (λ t s. refl) refl) (All-nil Places) in
+    let from_31 = All-cons Places (places_at 31) (drop 32 stated_places) (stand (places_at 31) C8250 refl (λ t s. refl) refl) (All-nil Places) in
+    let from_30 = All-cons Places (places_at 30) (drop 31 stated_places) (stand (places_at 30) C8250 refl (λ t s. refl) refl) from_31 in
+    let from_29 = All-cons Places (places_at 29) (drop 30 stated_places) (stand (places_at 29) C8250 refl (λ t s. refl) refl) from_30 in
+    let from_28 = All-cons Places (places_at 28) (drop 29 stated_places) (stand (places_at 28) C8250 refl (λ t s. refl) refl) from_29 in
+    let from_27 = All-cons Places (places_at 27) (drop 28 stated_places) (stand (places_at 27) C8050 refl (λ t s. refl) refl) from_28 in
+    let from_26 = All-cons Places (places_at 26) (drop 27 stated_places) (stand (places_at 26) C8050 refl (λ t s. refl) refl) from_27 in
+    let from_25 = All-cons Places (places_at 25) (drop 26 stated_places) (stand (places_at 25) C8050 refl (λ t s. refl) refl) from_26 in
+    let from_24 = All-cons Places (places_at 24) (drop 25 stated_places) (stand (places_at 24) C8050 refl (λ t s. refl) refl) from_25 in
+    let from_23 = All-cons Places (places_at 23) (drop 24 stated_places) (stand (places_at 23) Mac800 refl (λ t s. refl) refl) from_24 in
     let from_22 = All-cons Places (places_at 22) (drop 23 stated_places) (stand (places_at 22) Mac400 refl (λ t s. refl) refl) from_23 in
     let from_21 = All-cons Places (places_at 21) (drop 22 stated_places) (stand (places_at 21) AppleProdos refl (λ t s. refl) refl) from_22 in
     let from_20 = All-cons Places (places_at 20) (drop 21 stated_places) (stand (places_at 20) AppleDos33 refl (λ t s. refl) refl) from_21 in

@@ -3,8 +3,8 @@ use Rattle.std.specs.Prelude.{◌≡◌, ◌⊎◌, ℕ, ◌*◌, Bool, true, �
 use Rattle.std.proofs.Common.{inl, inr, subst, sym}
 use Rattle.std.proofs.lemmas.Bool.{leb-true}
 use Rattle.disk_zones.specs.declared.zones.Zone.{Zone}
-use Rattle.disk_zones.specs.Zones.{commodore_zone, macintosh_zone}
-use Rattle.disk_zones.specs.lemmas.EachZone.{by_commodore_zone, by_macintosh_zone}
+use Rattle.disk_zones.specs.Zones.{commodore_8050_zone, commodore_zone, macintosh_zone}
+use Rattle.disk_zones.specs.lemmas.EachZone.{by_commodore_8050_zone, by_commodore_zone, by_macintosh_zone}
 use Rattle.ibm_disks.specs.Disks.{rate_of, track_of_disk}
 use Rattle.ibm_disks.specs.Plans.{track_bytes}
 use Rattle.ibm_disks.specs.declared.disk.IbmDisk.{IbmDisk}
@@ -12,7 +12,7 @@ use Rattle.ibm_disks.specs.declared.rate.Rate.{Rate}
 use Rattle.ibm_disks.specs.declared.rate.Rate.TheVariants.{Double, High, HighAt360, Single, SingleAt360}
 use Rattle.ibm_disks.specs.lemmas.DiskLaws.{all_have_disks}
 use Rattle.sector_images.specs.Formats.{cell_of, zone}
-use Rattle.sector_images.specs.declared.format.Format.TheVariants.{Ibm3740, C1541, C1541Forty, Mac400, Mac800, C1571, Numbered}
+use Rattle.sector_images.specs.declared.format.Format.TheVariants.{Ibm3740, C1541, C1541Forty, Mac400, Mac800, C1571, C8050, C8250, Numbered}
 use Rattle.law_stated_tables.specs.Laws.{TracksTakeATurn}
 use Rattle.law_stated_tables.specs.Speeds.{TakesATurn}
 use Rattle.law_stated_tables.proofs.Tests.{both}
@@ -42,6 +42,10 @@ commodore : (cylinder : ℕ) → ZoneTakesOne (zone C1541 cylinder)
 unfolding commodore_zone
 commodore cylinder = by_commodore_zone ZoneTakesOne cylinder (at_300 _ _ refl, (at_300 _ _ refl, (at_300 _ _ refl, at_300 _ _ refl)))
 
+commodore_8050 : (cylinder : ℕ) → ZoneTakesOne (zone C8050 cylinder)
+unfolding commodore_8050_zone
+commodore_8050 cylinder = by_commodore_8050_zone ZoneTakesOne cylinder (at_300 _ _ refl, (at_300 _ _ refl, (at_300 _ _ refl, at_300 _ _ refl)))
+
 macintosh : (cylinder : ℕ) → ZoneTakesOne (zone Mac400 cylinder)
 unfolding macintosh_zone
 macintosh cylinder =
@@ -63,6 +67,8 @@ tracks_take_a_turn Ibm3740 cylinder = at_360 _ _ refl
 tracks_take_a_turn C1541 cylinder = commodore cylinder
 tracks_take_a_turn C1541Forty cylinder = commodore cylinder
 tracks_take_a_turn C1571 cylinder = commodore cylinder
+tracks_take_a_turn C8050 cylinder = commodore_8050 cylinder
+tracks_take_a_turn C8250 cylinder = commodore_8050 cylinder
 tracks_take_a_turn Mac400 cylinder = macintosh cylinder
 tracks_take_a_turn Mac800 cylinder = macintosh cylinder
 tracks_take_a_turn (Numbered disk) cylinder = numbered disk

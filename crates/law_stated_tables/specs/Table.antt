@@ -73,6 +73,35 @@ commodore_disk word cylinders heads image = record {
   zones = commodore 0 17 21 13 ∷ commodore 17 24 19 14 ∷ commodore 24 30 18 15 ∷ commodore 30 cylinders 17 16 ∷ [];
 }
 
+-- Commodore 8050 and 8250: a clock of 12 MHz is divided by 26, 28, 30 and 32, and each gives a cell.
+abbrev pub commodore_8050 : (first end sectors periods : ℕ) → StatedZone
+commodore_8050 first end sectors periods = record {
+  first = first;
+  end = end;
+  sectors = sectors;
+  speed = record { cells = 12000000; seconds = periods; turns = 300 };
+  behind = 0;
+  part = 8 * sectors;
+  is_even = true;
+}
+
+-- The zones of tracks 1 to 39, 40 to 53, 54 to 64 and 65 to 77. Of the 8250's disk the second head has all
+-- tracks from 78 on.
+abbrev pub commodore_8050_disk : List ℕ → (heads image : ℕ) → StatedFormat
+commodore_8050_disk word heads image = record {
+  word = word;
+  cylinders = 77;
+  heads = heads;
+  first_sector = 0;
+  bytes = 256;
+  image = image;
+  by_head = nat_eq heads 2;
+  step = 1;
+  zones =
+      commodore_8050 0 39 29 26 ∷ commodore_8050 39 53 27 28 ∷ commodore_8050 53 64 25 30
+      ∷ commodore_8050 64 77 23 32 ∷ [];
+}
+
 -- Apple's Disk II: 250000 cells a second, 300 turns a minute; 16 sectors of 3104 cells, and self-syncs of ten cells.
 -- Of the sectors by their physical numbers DOS 3.3 has logical ones seven apart, ProDOS half blocks eight apart.
 abbrev pub apple_disk : List ℕ → (step : ℕ) → StatedFormat
@@ -151,4 +180,6 @@ stated_formats =
     ∷ macintosh_disk (codes "mac-800") 2 819200
     ∷ commodore_disk (codes "c1571") 35 2 349696
     ∷ stated (codes "amiga-hd") 80 2 22 512 0 500 300 1802240
+    ∷ commodore_8050_disk (codes "c8050") 1 533248
+    ∷ commodore_8050_disk (codes "c8250") 2 1066496
     ∷ []

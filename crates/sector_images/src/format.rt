@@ -4,7 +4,7 @@ ghost use Rattle.ibm_disks.specs.Disks.{IsWordOfDisk};
 ghost use Rattle.sector_images.specs.Formats.{IsWordOfFormat, formats, has_row, row, track_order, zone};
 
 use crate::numbered_disks::{cell_of, geometry_of};
-use disk_zones::{Zone, commodore_zone, macintosh_zone};
+use disk_zones::{Zone, commodore_8050_zone, commodore_zone, macintosh_zone};
 use ibm_disks::{DiskWord, IbmDisk, name_word};
 
 /// A format of sector images.
@@ -40,12 +40,16 @@ pub enum Format {
     C1571,
     /// The Amiga's disk of high density: 80 cylinders of two heads, 22 sectors of 512 bytes (MFM).
     AmigaHd,
+    /// The Commodore 8050's disk: 77 cylinders of one head, 29 to 23 sectors of 256 bytes by zone (GCR).
+    C8050,
+    /// The Commodore 8250's disk: the same on each of two heads (GCR).
+    C8250,
     /// A disk of one of IBM's two recordings by its numbers, which may have a name too.
     Numbered(IbmDisk),
 }
 
 /// All formats that have a name.
-const FORMATS: [Format; 24] = [
+const FORMATS: [Format; 26] = [
     Format::Ibm3740,
     Format::Ibm360,
     Format::Ibm720,
@@ -70,6 +74,8 @@ const FORMATS: [Format; 24] = [
     Format::Mac800,
     Format::C1571,
     Format::AmigaHd,
+    Format::C8050,
+    Format::C8250,
 ];
 
 /// All formats that have a name, in the order of their table.
@@ -120,6 +126,8 @@ impl Format {
             Format::Mac800 => name_word("mac-800"),
             Format::C1571 => name_word("c1571"),
             Format::AmigaHd => name_word("amiga-hd"),
+            Format::C8050 => name_word("c8050"),
+            Format::C8250 => name_word("c8250"),
             Format::Numbered(disk) => disk.word(),
         }
     }
@@ -295,6 +303,22 @@ impl Format {
                 image_size: 1802240,
                 order: None,
             },
+            Format::C8050 => Geometry {
+                cylinders: 77,
+                heads: 1,
+                first_sector: 0,
+                sector_size: 256,
+                image_size: 533248,
+                order: None,
+            },
+            Format::C8250 => Geometry {
+                cylinders: 77,
+                heads: 2,
+                first_sector: 0,
+                sector_size: 256,
+                image_size: 1066496,
+                order: None,
+            },
             Format::Numbered(disk) => geometry_of(disk),
         }
     }
@@ -304,13 +328,13 @@ impl Format {
         ensures { result ≡ track_order self }
     {
         match self {
-            Format::C1571 => TrackOrder::ByHead,
+            Format::C1571 | Format::C8250 => TrackOrder::ByHead,
             _ => TrackOrder::ByCylinder,
         }
     }
 
     /// The zone of a cylinder.
-    #[tactic(auto, unfolding(disk_zones::specs::Zones::commodore_zone, disk_zones::specs::Zones::macintosh_zone))]
+    #[tactic(auto, unfolding(disk_zones::specs::Zones::commodore_zone, disk_zones::specs::Zones::commodore_8050_zone, disk_zones::specs::Zones::macintosh_zone))]
     pub(crate) fn zone(self, cylinder: u8) -> Zone
         ensures sectors { result.sectors ≡ (zone self cylinder).sectors }
         ensures nominal { result.nominal ≡ (zone self cylinder).nominal }
@@ -343,6 +367,7 @@ impl Format {
                 ring_cells: 200000,
             },
             Format::C1541 | Format::C1541Forty | Format::C1571 => commodore_zone(cylinder),
+            Format::C8050 | Format::C8250 => commodore_8050_zone(cylinder),
             Format::Mac400 | Format::Mac800 => macintosh_zone(cylinder),
             Format::AppleDo | Format::ApplePo | Format::AppleDos33 | Format::AppleProdos => Zone {
                 sectors: 16,

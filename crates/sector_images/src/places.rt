@@ -1,8 +1,6 @@
 ghost use Rattle.std.specs.Prelude.{◌≡◌, ℕ, ◌+◌, ◌/◌, ◌%◌, ◌<◌, ◌≤◌, get_or, length, sum_by, take, slice_get, Some};
 ghost use Rattle.sector_images.specs.Formats.{row, slot, track_order, zone};
-ghost use Rattle.sector_images.specs.Places.{IsTrack, IsSector, tracks, bytes_of, place_of, sector_in, sector_place};
-ghost use Rattle.sector_images.specs.Places.{sectors_before as sectors_before_in};
-ghost use Rattle.sector_images.specs.Places.{sectors_before_track as sectors_before_track_in};
+ghost use Rattle.sector_images.specs.Places.{IsTrack, IsSector, tracks, bytes_of, place_of, sector_in, sector_place, sectors_before as sectors_before_in, sectors_before_track as sectors_before_track_in};
 
 use crate::format::{Format, TrackOrder};
 use flux_base::TrackId;
@@ -23,8 +21,8 @@ pub fn track_count(format: Format) -> u32
     u32::from(geometry.cylinders) * u32::from(geometry.heads)
 }
 
-/// The track of this number from 0, in the format's order: cylinder, then head, or for a Commodore
-/// 1571's disk head, then cylinder.
+/// The track of this number from 0, in the format's order: cylinder, then head, or for a Commodore 1571's or 8250's disk
+/// head, then cylinder.
 pub fn track_id(format: Format, number: u32) -> TrackId
     requires { number < length (tracks format) }
     ensures at { slice_get (tracks format) number ≡ Some result }

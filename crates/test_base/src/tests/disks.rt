@@ -9,7 +9,7 @@ use sector_images::{
 };
 
 /// The word of a format, the bytes of its image, and its tracks.
-const FORMATS: [(&str, Format, u32, u32); 24] = [
+const FORMATS: [(&str, Format, u32, u32); 26] = [
     ("ibm-3740", Format::Ibm3740, 77 * 26 * 128, 77),
     (
         "ibm-160",
@@ -79,6 +79,8 @@ const FORMATS: [(&str, Format, u32, u32); 24] = [
     ("mac-800", Format::Mac800, 1600 * 512, 160),
     ("c1571", Format::C1571, 2 * 174848, 70),
     ("amiga-hd", Format::AmigaHd, 80 * 2 * 22 * 512, 160),
+    ("c8050", Format::C8050, 533248, 77),
+    ("c8250", Format::C8250, 2 * 533248, 154),
 ];
 
 const NO_FORMATS: [&[u8]; 5] = [b"", b"ibm-374", b"ibm-37400", b"IBM-3740", b"c1541-4"];
@@ -117,8 +119,8 @@ fn numbers_are_formats(rt: HostRuntime) {
     assert_eq!(rt; Format::of_word(b"mfm-dd-82x2x13x512"), None);
 }
 
-/// Words of numbers, and the word that is printed of the format. Three disks of the PC have a name too; all other names
-/// are of disks with gaps of their own, which no word of numbers writes.
+/// Words of numbers, and the word that is printed of the format. Three disks of the PC have a name too; all other names are of disks with
+/// gaps of their own, which no word of numbers writes.
 const PRINTED: [(&str, &str); 9] = [
     ("mfm-dd-40x1x8x512", "ibm-160"),
     ("mfm-dd-40x1x9x512", "ibm-180"),
@@ -144,9 +146,9 @@ fn names_are_printed(rt: HostRuntime) {
     }
 }
 
-/// A track of a format by its number, its cylinder and head, its place in the image and its bytes, and its nominal cell
-/// in fine units and the cells of its ring.
-const TRACKS: [(Format, u32, (u8, u8), (u32, u32), (u32, u32)); 38] = [
+/// A track of a format by its number, its cylinder and head, its place in the image and its bytes, and its nominal cell in
+/// fine units and the cells of its ring.
+const TRACKS: [(Format, u32, (u8, u8), (u32, u32), (u32, u32)); 45] = [
     (Format::AmigaHd, 1, (0, 1), (11264, 11264), (24604, 200000)),
     (
         Format::AmigaHd,
@@ -160,6 +162,20 @@ const TRACKS: [(Format, u32, (u8, u8), (u32, u32), (u32, u32)); 38] = [
     (Format::C1571, 34, (34, 0), (170496, 4352), (98416, 49912)),
     (Format::C1571, 35, (0, 1), (174848, 5376), (79963, 61488)),
     (Format::C1571, 69, (34, 1), (345344, 4352), (98416, 49912)),
+    // The first track of each zone, and both ends of head 1
+    (Format::C8050, 0, (0, 0), (0, 7424), (53308, 92104)),
+    (Format::C8050, 39, (39, 0), (289536, 6912), (57409, 85536)),
+    (Format::C8050, 53, (53, 0), (386304, 6400), (61510, 80000)),
+    (Format::C8050, 64, (64, 0), (456704, 5888), (65610, 74888)),
+    (Format::C8250, 76, (76, 0), (527360, 5888), (65610, 74888)),
+    (Format::C8250, 77, (0, 1), (533248, 7424), (53308, 92104)),
+    (
+        Format::C8250,
+        153,
+        (76, 1),
+        (1060608, 5888),
+        (65610, 74888),
+    ),
     (Format::Ibm3740, 0, (0, 0), (0, 3328), (49208, 83328)),
     (Format::Ibm3740, 76, (76, 0), (252928, 3328), (49208, 83328)),
     (Format::Ibm360, 1, (0, 1), (4608, 4608), (49208, 100000)),
@@ -291,8 +307,7 @@ fn sectors_have_their_places(rt: HostRuntime) {
     assert_eq!(rt; image_place(Format::C1571, track(17, 1), 0), 266240);
 }
 
-/// A disk by its numbers, the number of a track and of a sector there from 0, the sector's own number,
-/// and the place of its first byte.
+/// A disk by its numbers, the number of a track and of a sector there from 0, the sector's own number, and the place of its first byte.
 const NUMBERED_SECTORS: [(IbmDisk, u32, u8, u8, u32); 5] = [
     (IbmDisk::IBM_1200, 159, 14, 15, 1228288),
     (IbmDisk::CPC_DATA, 0, 1, 0xC2, 512),

@@ -96,6 +96,8 @@ const TOLD: &[(&str, &str)] = &[
     ("St", "no format St; try: ibm-720\n"),
     ("d64", "no format d64; try: c1541\n"),
     ("d71", "no format d71; try: c1571\n"),
+    ("d80", "no format d80; try: c8050\n"),
+    ("D82", "no format D82; try: c8250\n"),
     (
         "D81",
         "no format D81; a Commodore 1581's disks have none yet\n",

@@ -1,7 +1,7 @@
 //! Rings of tracks, and images that are written.
 use apple_gcr::AppleGcr;
 use cell_bits::Cells;
-use commodore_gcr::CommodoreGcr;
+use commodore_gcr::{CommodoreDrive, CommodoreGcr};
 use flux_base::{MemorySink, MemorySource, TrackId};
 use flux_engine::{WriteFault, WriteRoom, track_ring, write_disk};
 use frame_law::{Reading, Recording, SectorBuffer};
@@ -56,6 +56,7 @@ fn a_ring_has_the_ids_of_its_disk(rt: HostRuntime) -> Result<(), Fail> {
     track_ring(Format::C1541, 0, &image, &mut ring)?;
     let mut other = Cells::new(alloc);
     let disk = CommodoreGcr {
+        drive: CommodoreDrive::C1541,
         id1: 0x41,
         id2: 0x42,
     };

@@ -7,7 +7,7 @@ use super::rings::{
     Numbers, Word, assert_found_in_joined, assert_words, filled_ring, read_back_by_chance,
 };
 use cell_bits::Cells;
-use commodore_gcr::CommodoreGcr;
+use commodore_gcr::{CommodoreDrive, CommodoreGcr};
 use flux_base::{HeaderName, Memory, TrackId};
 use frame_law::Reading;
 use std::test::Fail;
@@ -19,6 +19,7 @@ const TRACK: TrackId = TrackId {
 };
 
 const DISK: CommodoreGcr = CommodoreGcr {
+    drive: CommodoreDrive::C1541,
     id1: 0x41,
     id2: 0x42,
 };
@@ -398,6 +399,7 @@ const JOINED: &[Search] = &[
 #[test]
 fn reads_two_joined_rings(rt: HostRuntime) -> Result<(), Fail> {
     let disk = CommodoreGcr {
+        drive: CommodoreDrive::C1541,
         id1: 0x5E,
         id2: 0x5E,
     };

@@ -25,3 +25,8 @@ pub returns-in-ByHead-clause-at : goal.returns-in-ByHead-clause-at
 returns-in-ByHead-clause-at c =
     rw (c.split-head.ensures.often, c.split-head.ensures.left, c.geometry-geometry.ensures.cylinders)
     (track_by ByHead c.args.format c.args.number (sym c.track_order.ensures ∙ c.in-ByHead.is) c.requires).0
+
+pub returns-in-ByHead-clause-track : goal.returns-in-ByHead-clause-track
+returns-in-ByHead-clause-track c =
+    rw (c.split-head.ensures.often, c.split-head.ensures.left, c.geometry-geometry.ensures.cylinders)
+    (track_by ByHead c.args.format c.args.number (sym c.track_order.ensures ∙ c.in-ByHead.is) c.requires).1
