@@ -28,6 +28,7 @@ KNOWN = [
     ("atari-st-800", "st", "st", b"35  DSDD", False), ("acorn-dfs-40", "ssd", "ssd", b"525 SSQD", True), ("acorn-dfs-80", "ssd", "ssd", b"525 DSQD", True),
     ("cpc-data", "dsk", "dsk", b"", False), ("cpc-system", "dsk", "dsk", b"", False), ("amiga-hd", "adf", "adf", b"35  DSHD", True),
     ("c1571", "d71", "d71", b"525 DSSD", True), ("c8050", "d80", "d80", b"525 SSQD", True), ("c8250", "d82", "d82", b"525 DSQD", True),
+    ("c1581", "d81", "d81", b"35  DSDD", True),
     ("mac-400", "apple_gcr", "dsk", b"35  SSDD", True), ("mac-800", "apple_gcr", "dsk", b"35  DSDD", True),
     # by their numbers: the PC-98, FM Towns and X68000; the Atari ST; Acorn's ADFS; Sam Coupe, TR-DOS, Opus, CoCo, Acorn's Atom, DEC's Rainbow
     ("mfm-hd360-77x2x8x1024", "pc98", "hdm", b"525 DSHD", True), ("mfm-hd360-77x2x8x1024", "fmtowns", "bin", b"35  DSHD", True),
@@ -39,8 +40,6 @@ KNOWN = [
     ("mfm-dd-80x2x16x256", "trd", "trd", b"525 DSQD", True), ("mfm-dd-40x1x18x256@0", "opd", "opd", b"35  SSDD", True),
     ("mfm-dd-35x1x18x256", "jvc", "dsk", b"525 SSDD", True), ("fm-sd-40x1x10x256@0", "atom", "40t", b"525 SSSD", True),
     ("mfm-dd-80x1x10x512", "rx50", "img", b"525 SSQD", True),
-    # the Commodore 1581, which numbers its heads the other way
-    ("mfm-dd-80x2x10x512", "d81", "d81", b"35  DSDD", True),
 ]
 
 
@@ -49,16 +48,6 @@ STEPS = {"c1571": 2}
 
 # whose files floptool writes well, but gives each sector of a track the bytes of one when it reads them
 WRITTEN_ALONE = {"msa"}
-
-# whose drive's head 0 is the disk's head 1, while the image begins with what it reads
-EXCHANGED = {"d81"}
-
-
-def exchanged(form, image):
-    """The image with the two heads of each cylinder exchanged."""
-    size = form.image_bytes // len(form.tracks)
-    return b"".join(image[place + size : place + 2 * size] + image[place : place + size] for place in range(0, len(image), 2 * size))
-
 
 def cpc_file(image, first):
     """A disk of the CPC as a file of its emulators, which names each sector."""
@@ -113,7 +102,7 @@ def mame_file(form, name, kind, streams):
         times = [min(TURN - 1, (time - begin) * TURN // (end - begin)) for time in stream.times if begin < time <= end]
         values = [time - before for before, time in zip([0] + times, times)]
         content = struct.pack(f"<{len(values)}I", *values)
-        packed[cylinder, head ^ (name in EXCHANGED)] = (zlib.compress(content), len(content))
+        packed[cylinder, head] = (zlib.compress(content), len(content))
     return packed_in_file(packed, kind, STEPS.get(form.word, 1))
 
 
@@ -127,7 +116,7 @@ def as_file(form, name, image):
         return cpc_file(image, form.recording.first)
     if name == "msa":
         return msa_file(form, image)
-    return exchanged(form, image) if name in EXCHANGED else image
+    return image
 
 
 def there(program, case, folder, image):
@@ -141,7 +130,7 @@ def there(program, case, folder, image):
     ticks = disks.TICKS_A_MICROSECOND * form.nominal(0) / 24604 * form.ring_cells(0) / TURN
     for cylinder, head in form.tracks:
         times, time = [], 0
-        for value in tracks[STEPS.get(word, 1) * cylinder, head ^ (name in EXCHANGED)] * 2:
+        for value in tracks[STEPS.get(word, 1) * cylinder, head] * 2:
             time += value
             times.append(round(time * ticks))
         values = [time - before for before, time in zip([0] + times, times)]

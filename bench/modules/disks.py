@@ -328,6 +328,7 @@ FORMATS = Formats({
     "c1541": Format(commodore_gcr(35), 35, 1, 256, ZONE_SECTORS, ZONE_CELLS),
     "c1541-40": Format(commodore_gcr(35), 40, 1, 256, ZONE_SECTORS, ZONE_CELLS),
     "c1571": Format(commodore_gcr(35), 35, 2, 256, ZONE_SECTORS, ZONE_CELLS, by_head=True),
+    "c1581": Format(lambda cylinder, head, sectors: ibm_mfm(30, 64)(cylinder, 1 - head, sectors), 80, 2, 512, lambda _: 10, lambda _: 2),
     "c8050": Format(commodore_gcr(77), 77, 1, 256, SECTORS_8050, CELLS_8050),
     "c8250": Format(commodore_gcr(77), 77, 2, 256, SECTORS_8050, CELLS_8050, by_head=True),
     "apple-do": Format(apple_gcr, 35, 1, 256, lambda _: 16, lambda _: 4, DOS),

@@ -156,6 +156,7 @@ FORMATS = Formats((form.word, form) for form in (
     Format("amiga-hd", AmigaMfm(22, 532), 80, 2, always(24604), always(200000)),
     Format("c8050", CommodoreGcr(DRIVE_8050), 77, 1, CELLS_8050, RINGS_8050),
     Format("c8250", CommodoreGcr(DRIVE_8050), 77, 2, CELLS_8050, RINGS_8050, by_head=True),
+    Format("c1581", IbmMfm(10, 30, 64, exchanged=True), 80, 2, always(49208), always(100000)),
 ))
 
 

@@ -169,11 +169,10 @@ ASK_FORMATS = b"read", b"rescue", b"map"
 
 # What people call a disk or the file of its image, in letters of any case.
 MEANINGS = {
-    b"adf": b"try: amiga", b"st": b"try: ibm-720", b"d64": b"try: c1541", b"d71": b"try: c1571", b"d80": b"try: c8050",
+    b"adf": b"try: amiga", b"st": b"try: ibm-720", b"d64": b"try: c1541", b"d71": b"try: c1571", b"d80": b"try: c8050", b"d81": b"try: c1581",
     b"d82": b"try: c8250", b"do": b"try: apple-dos33",
     b"dsk": b"try: apple-dos33", b"po": b"try: apple-prodos", b"ssd": b"try: acorn-dfs-80", b"pc98": b"try: mfm-hd360-77x2x8x1024",
     b"720k": b"try: ibm-720", b"1.44": b"try: ibm-1440", b"360k": b"try: ibm-360", b"mac": b"try: mac-800",
-    b"d81": b"a Commodore 1581's disks have none yet",
 }
 
 

@@ -189,9 +189,9 @@ class MfmList:
 class IbmMfm(Recording):
     sync, data_syncs = word(0x4489) * 3, [word(0x4489) * 3]
 
-    def __init__(self, count, gap, end_gap, first=1, size=512, code=2, tight=False):
+    def __init__(self, count, gap, end_gap, first=1, size=512, code=2, tight=False, exchanged=False):
         self.count, self.gap, self.end_gap, self.first = count, gap, end_gap, first
-        self.size, self.code, self.tight = size, code, tight
+        self.size, self.code, self.tight, self.exchanged = size, code, tight, exchanged
 
     def sectors(self, cylinder):
         return self.count
@@ -203,7 +203,7 @@ class IbmMfm(Recording):
         return tuple(field[1:5]), place + 160
 
     def own(self, name, cylinder, head):
-        return name[2] if name[2] in range(self.first, self.first + self.count) and name == (cylinder, head, name[2], self.code) else None
+        return name[2] if name[2] in range(self.first, self.first + self.count) and name == (cylinder, head ^ self.exchanged, name[2], self.code) else None
 
     def size_of(self, name):
         return ibm_size(name)
@@ -221,7 +221,7 @@ class IbmMfm(Recording):
         else:
             out.bytes(b"\x4e" * 80 + bytes(12)).mark(0x5224, 3).bytes(b"\xfc" + b"\x4e" * 50)
         for number, data in enumerate(sectors, self.first):
-            header = checked(b"\xa1" * 3, bytes([0xFE, cylinder, head, number, self.code]))
+            header = checked(b"\xa1" * 3, bytes([0xFE, cylinder, head ^ self.exchanged, number, self.code]))
             out.bytes(bytes(3 if self.tight else 12)).mark(0x4489, 3).bytes(header + b"\x4e" * 22)
             out.bytes(bytes(12)).mark(0x4489, 3).bytes(checked(b"\xa1" * 3, b"\xfb" + data) + b"\x4e" * self.gap)
         return out.bytes(b"\x4e" * self.end_gap).cells()

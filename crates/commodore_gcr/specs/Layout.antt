@@ -1,4 +1,5 @@
--- The rows of a track of Commodore's disks: its sectors one after another, with no gap of its own where it begins.
+-- The rows of a track of Commodore's disks: its sectors one after another, with no gap of its own where
+-- it begins.
 use Rattle.std.specs.Prelude.{ℕ, ◌+◌, ◌-◌, ◌*◌, ◌/◌, Bool, true, false, List, [], ◌∷◌, replicate}
 use Rattle.flux_base.specs.declared.track.TrackId.{TrackId}
 use Rattle.disk_zones.specs.declared.zones.Zone.{Zone}
@@ -30,8 +31,8 @@ gap_cells count = raw_bytes (replicate count 0x55)
 abbrev pub SECTOR_CELLS : ℕ
 SECTOR_CELLS = 2832
 
--- the bytes of the gap after each sector: the sectors of a track share its ring evenly, so that they
--- are 12, 21, 16 and 13, or 43, 42, 46 and 53
+-- the bytes of the gap after each sector: the sectors of a track share its ring evenly, so that
+-- they are 12, 21, 16 and 13, or 43, 42, 46 and 53
 abbrev pub gap_bytes : Zone → ℕ
 gap_bytes zone = (zone.ring_cells / zone.sectors - SECTOR_CELLS) / 8
 
@@ -39,7 +40,8 @@ gap_bytes zone = (zone.ring_cells / zone.sectors - SECTOR_CELLS) / 8
 abbrev pub row_cells : CommodoreGcr → TrackId → Bool → ℕ → List ℕ → Row → List Bool
 row_cells disk track before sector bytes SyncLead = replicate 30 true
 row_cells disk track before sector bytes SyncOnes = replicate 10 true
-row_cells disk track before sector bytes HeaderBlock = gcr_bytes (header_block disk.drive disk.id1 disk.id2 track sector)
+row_cells disk track before sector bytes HeaderBlock =
+    gcr_bytes (header_block disk.drive disk.id1 disk.id2 track sector)
 row_cells disk track before sector bytes HeaderGap = gap_cells 9
 row_cells disk track before sector bytes DataBytes = gcr_bytes (data_bytes bytes)
 row_cells disk track before sector bytes DataFill = gcr_bytes DATA_FILL
@@ -57,7 +59,8 @@ row_size zone count ZoneGap = 8 * gap_bytes zone
 
 -- the ring
 abbrev pub ring_of : CommodoreGcr → TrackId → List ℕ → List Bool
-ring_of disk track bytes = ring_of_rows false (row_cells disk track) 0 (sectors_of disk.drive track) SECTOR_SIZE bytes rows
+ring_of disk track bytes =
+    ring_of_rows false (row_cells disk track) 0 (sectors_of disk.drive track) SECTOR_SIZE bytes rows
 
 -- the cells of a ring
 abbrev pub ring_cells_of : CommodoreDrive → TrackId → ℕ

@@ -1,4 +1,5 @@
--- The sectors of the disks of Commodore's drives (group code): the bytes of their two blocks, what a header names and what data hold.
+-- The sectors of the disks of Commodore's drives (group code): the bytes of their two blocks, what a
+-- header names and what data hold.
 use Rattle.std.specs.Prelude.{◌≡◌, ℕ, ◌+◌, Bool, List, [], ◌∷◌, ◌++◌, length}
 use Rattle.flux_base.specs.declared.track.TrackId.{TrackId}
 use Rattle.cell_bits.specs.Word.{Stands}

@@ -24,9 +24,10 @@ use cell_bits::Cells;
 use flux_base::{HeaderName, Memory, TrackId};
 use frame_law::{CellsFrom, Coding, Layout, SectorBuffer, SectorBytes};
 
-/// The recording of the disks of Commodore's drives. The tracks of a 1541's or 1571's are the cylinders 0 to 39 with the
-/// heads 0 and 1, of which a 1541's disk has 35 or 40 with head 0, and a 1571's 35 with both; an 8050's has 77 with head 0,
-/// and an 8250's with both. Headers number them from 1, and those of head 1 from 36 or from 78. Sectors are numbered from 0.
+/// The recording of the disks of Commodore's drives. The tracks of a 1541's or 1571's are the cylinders 0 to 39 with
+/// the heads 0 and 1, of which a 1541's disk has 35 or 40 with head 0, and a 1571's 35 with both; an 8050's has 77 with
+/// head 0, and an 8250's with both. Headers number them from 1, and those of head 1 from 36 or from 78. Sectors are
+/// numbered from 0.
 ///
 /// Each header has the two bytes of the disk's id. They are written, and are not looked at when a sector is
 /// read but through the header's check value: what stands is the same for all ids.

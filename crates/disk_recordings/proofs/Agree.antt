@@ -11,7 +11,7 @@ use Rattle.ibm_disks.specs.lemmas.DiskLaws.{all_have_disks}
 use Rattle.sector_images.specs.Formats.{row, zone}
 use Rattle.sector_images.specs.Places.{IsTrack}
 use Rattle.sector_images.specs.declared.format.Format.{Format}
-use Rattle.sector_images.specs.declared.format.Format.TheVariants.{Ibm3740, Ibm360, Ibm720, Ibm1440, Amiga, C1541, C1541Forty, AppleDo, ApplePo, AppleDos33, AppleProdos, Mac400, Mac800, C1571, AmigaHd, C8050, C8250, Numbered}
+use Rattle.sector_images.specs.declared.format.Format.TheVariants.{Ibm3740, Ibm360, Ibm720, Ibm1440, Amiga, C1541, C1541Forty, AppleDo, ApplePo, AppleDos33, AppleProdos, Mac400, Mac800, C1571, AmigaHd, C8050, C8250, C1581, Numbered}
 use Rattle.disk_recordings.specs.Agreement.{Agrees}
 use Rattle.disk_recordings.specs.Recordings.{DiskRecording, numbered_by, recording_of}
 use Rattle.disk_recordings.specs.contracts.meaning.DiskRecordingMeaning.TheImpl.{ghosts}
@@ -64,6 +64,7 @@ agrees C1571 id = search (rules, arith, commodore_cells, commodore_sectors)
 agrees AmigaHd id = search (rules, arith)
 agrees C8050 id = search (rules, arith, commodore_8050_cells, commodore_8050_sectors)
 agrees C8250 id = search (rules, arith, commodore_8050_cells, commodore_8050_sectors)
+agrees C1581 id = search (rules, arith)
 agrees (Numbered disk) id =
     let fits = fits_by disk (density_of (rate_of disk)) (all_have_disks disk).fills.0 in record {
       track = fits.track;

@@ -15,12 +15,13 @@ use Rattle.ibm_disks.specs.declared.rate.Density.TheVariants.{Single as SingleDe
 use Rattle.ibm_disks.specs.declared.track_numbers.TrackNumbers.{TrackNumbers}
 use Rattle.ibm_fm.specs.declared.recording.IbmFm.{IbmFm}
 use Rattle.ibm_fm.specs.Disks.{ibm_3740}
+use Rattle.ibm_mfm.specs.declared.heads.HeadNumbers.TheVariants.{Same}
 use Rattle.ibm_mfm.specs.declared.recording.IbmMfm.{IbmMfm}
-use Rattle.ibm_mfm.specs.Disks.{pc_18, pc_9}
+use Rattle.ibm_mfm.specs.Disks.{c1581, pc_18, pc_9}
 use Rattle.macintosh_gcr.specs.declared.recording.MacintoshGcr.{MacintoshGcr}
 use Rattle.macintosh_gcr.specs.declared.recording.MacintoshGcr.TheVariants.{SingleSided, DoubleSided}
 use Rattle.sector_images.specs.declared.format.Format.{Format}
-use Rattle.sector_images.specs.declared.format.Format.TheVariants.{Ibm3740, Ibm360, Ibm720, Ibm1440, Amiga, C1541, C1541Forty, AppleDo, ApplePo, AppleDos33, AppleProdos, Mac400, Mac800, C1571, AmigaHd, C8050, C8250, Numbered}
+use Rattle.sector_images.specs.declared.format.Format.TheVariants.{Ibm3740, Ibm360, Ibm720, Ibm1440, Amiga, C1541, C1541Forty, AppleDo, ApplePo, AppleDos33, AppleProdos, Mac400, Mac800, C1571, AmigaHd, C8050, C8250, C1581, Numbered}
 use Rattle.disk_recordings.specs.declared.disk_id.DiskId.{DiskId}
 
 -- one of the recordings
@@ -30,7 +31,7 @@ DiskRecording = Either IbmFm (Either IbmMfm (Either AmigaMfm (Either CommodoreGc
 -- the recording of a density, with the numbers of a track
 abbrev pub numbered_by : Density → TrackNumbers → DiskRecording
 numbered_by SingleDensity track = Left (record { numbers = track })
-numbered_by DoubleDensity track = Right (Left (record { numbers = track }))
+numbered_by DoubleDensity track = Right (Left (record { numbers = track; heads = Same }))
 
 -- that of the disks of one of Commodore's drives
 abbrev pub commodore_by : CommodoreDrive → DiskId → DiskRecording
@@ -55,6 +56,7 @@ recording_of C1571 id = commodore_by Drive1541 id
 recording_of AmigaHd id = Right (Right (Left HighDensity))
 recording_of C8050 id = commodore_by Drive8050 id
 recording_of C8250 id = commodore_by Drive8050 id
+recording_of C1581 id = Right (Left c1581)
 recording_of (Numbered disk) id = numbered_by (density_of (rate_of disk)) (track_of_disk disk)
 
 -- an id for disks that are read

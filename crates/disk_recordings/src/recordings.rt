@@ -16,7 +16,7 @@ use either::{Either, Left, Right};
 use flux_base::TrackId;
 use ibm_disks::{Density, IbmDisk};
 use ibm_fm::IbmFm;
-use ibm_mfm::IbmMfm;
+use ibm_mfm::{HeadNumbers, IbmMfm};
 use macintosh_gcr::MacintoshGcr;
 use sector_images::Format;
 
@@ -54,6 +54,7 @@ pub fn recording_of(format: Format, id: DiskId) -> DiskRecording
         Format::Ibm3740 => Left(IbmFm::IBM_3740),
         Format::Ibm360 | Format::Ibm720 => Right(Left(IbmMfm::PC_9)),
         Format::Ibm1440 => Right(Left(IbmMfm::PC_18)),
+        Format::C1581 => Right(Left(IbmMfm::C1581)),
         Format::Amiga => Right(Right(Left(AmigaMfm::DoubleDensity))),
         Format::AmigaHd => Right(Right(Left(AmigaMfm::HighDensity))),
         Format::C1541 | Format::C1541Forty | Format::C1571 => commodore(CommodoreDrive::C1541, id),
@@ -86,7 +87,10 @@ fn numbered(disk: IbmDisk) -> DiskRecording
     let numbers = disk.track();
     match disk.rate().density() {
         Density::Single => Left(IbmFm { numbers }),
-        Density::Double => Right(Left(IbmMfm { numbers })),
+        Density::Double => Right(Left(IbmMfm {
+            numbers,
+            heads: HeadNumbers::Same,
+        })),
     }
 }
 

@@ -26,7 +26,8 @@ commodore_inner = record { sectors = 17; nominal = fine_units 16; ring_cells = 4
 unfoldable pub commodore_zone : ℕ → Zone
 commodore_zone cylinder = zone_in commodore_outer commodore_inner cylinder
 
--- a zone of a Commodore 8050's disk, by the sectors and the cells of a track, each of so many periods of the drive's clock
+-- a zone of a Commodore 8050's disk, by the sectors and the cells of a track, each of so many periods
+-- of the drive's clock
 abbrev pub of_periods : (sectors periods cells : ℕ) → Zone
 of_periods sectors periods cells = record {
   sectors = sectors;
@@ -37,7 +38,8 @@ of_periods sectors periods cells = record {
 -- its zones: tracks 1 to 39, 40 to 53, 54 to 64, and from 65 on
 abbrev pub commodore_8050_outer : List Outer
 commodore_8050_outer =
-    record { zone = of_periods 29 26 92104; end = 39 } ∷ record { zone = of_periods 27 28 85536; end = 53 }
+    record { zone = of_periods 29 26 92104; end = 39 }
+    ∷ record { zone = of_periods 27 28 85536; end = 53 }
     ∷ record { zone = of_periods 25 30 80000; end = 64 } ∷ []
 
 abbrev pub commodore_8050_inner : Zone

@@ -11,7 +11,7 @@ use Rattle.flux_base.specs.lemmas.Grids.{get-grid, grid, length-grid}
 use Rattle.sector_images.specs.Formats.{row}
 use Rattle.sector_images.specs.Places.{IsTrack, TracksKeepBounds, tracks}
 use Rattle.sector_images.specs.declared.format.Format.{Format}
-use Rattle.sector_images.specs.declared.format.Format.TheVariants.{Ibm3740, Ibm360, Ibm720, Ibm1440, Amiga, C1541, C1541Forty, AppleDo, ApplePo, AppleDos33, AppleProdos, Mac400, Mac800, C1571, AmigaHd, C8050, C8250, Numbered}
+use Rattle.sector_images.specs.declared.format.Format.TheVariants.{Ibm3740, Ibm360, Ibm720, Ibm1440, Amiga, C1541, C1541Forty, AppleDo, ApplePo, AppleDos33, AppleProdos, Mac400, Mac800, C1571, AmigaHd, C8050, C8250, C1581, Numbered}
 use Rattle.flux_engine.specs.Recordings.{track_at}
 use Rattle.track_shelf.specs.declared.stepping.Stepping.{Stepping}
 use Rattle.track_shelf.specs.declared.stepping.Stepping.TheVariants.{Double, Single}
@@ -55,6 +55,7 @@ in-order C1571 = inr refl
 in-order AmigaHd = inl refl
 in-order C8050 = inl refl
 in-order C8250 = inr refl
+in-order C1581 = inl refl
 in-order (Numbered disk) = inl refl
 
 -- each track of a format has a number

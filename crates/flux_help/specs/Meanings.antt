@@ -15,7 +15,7 @@ meanings =
     ∷ record { word = codes "st"; ending = codes "; try: ibm-720\n" }
     ∷ record { word = codes "d64"; ending = codes "; try: c1541\n" }
     ∷ record { word = codes "d71"; ending = codes "; try: c1571\n" }
-    ∷ record { word = codes "d81"; ending = codes "; a Commodore 1581's disks have none yet\n" }
+    ∷ record { word = codes "d81"; ending = codes "; try: c1581\n" }
     ∷ record { word = codes "d80"; ending = codes "; try: c8050\n" }
     ∷ record { word = codes "d82"; ending = codes "; try: c8250\n" }
     ∷ record { word = codes "do"; ending = codes "; try: apple-dos33\n" }

@@ -3,7 +3,7 @@ use Rattle.std.specs.Prelude.{ℕ, List, ◌++◌, codes, decimal, flat_map}
 use Rattle.ibm_disks.specs.Disks.{disk_label}
 use Rattle.sector_images.specs.Formats.{formats, row}
 use Rattle.sector_images.specs.declared.format.Format.{Format}
-use Rattle.sector_images.specs.declared.format.Format.TheVariants.{Ibm3740, Ibm360, Ibm720, Ibm1440, Amiga, AmigaHd, C1541, C1541Forty, C1571, C8050, C8250, AppleDo, ApplePo, AppleDos33, AppleProdos, Mac400, Mac800, Numbered}
+use Rattle.sector_images.specs.declared.format.Format.TheVariants.{Ibm3740, Ibm360, Ibm720, Ibm1440, Amiga, AmigaHd, C1541, C1541Forty, C1571, C8050, C8250, C1581, AppleDo, ApplePo, AppleDos33, AppleProdos, Mac400, Mac800, Numbered}
 use Rattle.flux_help.specs.Verbs.{verb_row, verbs}
 use Rattle.flux_help.specs.declared.page.Page.{Page}
 use Rattle.flux_help.specs.declared.page.Page.TheVariants.{Help, Version, About}
@@ -48,6 +48,7 @@ disk_name C1541Forty = codes "Commodore 1541, 40 cylinders, 21 to 17 sectors"
 disk_name C1571 = codes "Commodore 1571, 35 cylinders, 2 heads, 21 to 17 sectors"
 disk_name C8050 = codes "Commodore 8050, 5.25-inch, 77 cylinders, 29 to 23 sectors"
 disk_name C8250 = codes "Commodore 8250, 5.25-inch, 77 cylinders, 2 heads, 29 to 23 sectors"
+disk_name C1581 = codes "Commodore 1581, 3.5-inch, 80 cylinders, 2 heads, 10 sectors"
 disk_name AppleDo = codes "Apple II, exact to the cell, in the order of DOS 3.3, 35 cylinders, 16 sectors"
 disk_name ApplePo = codes "Apple II, exact to the cell, in the order of ProDOS, 35 cylinders, 16 sectors"
 disk_name AppleDos33 = codes "Apple II, as DOS 3.3 wrote it, 35 cylinders, 16 sectors"

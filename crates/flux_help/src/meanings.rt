@@ -31,7 +31,7 @@ const MEANINGS: [Meaning; 16] = [
     },
     Meaning {
         word: "d81",
-        ending: "; a Commodore 1581's disks have none yet\n",
+        ending: "; try: c1581\n",
     },
     Meaning {
         word: "d80",

@@ -122,6 +122,7 @@ fn disk_name(format: Format) -> &'static str
         Format::C1571 => "Commodore 1571, 35 cylinders, 2 heads, 21 to 17 sectors",
         Format::C8050 => "Commodore 8050, 5.25-inch, 77 cylinders, 29 to 23 sectors",
         Format::C8250 => "Commodore 8250, 5.25-inch, 77 cylinders, 2 heads, 29 to 23 sectors",
+        Format::C1581 => "Commodore 1581, 3.5-inch, 80 cylinders, 2 heads, 10 sectors",
         Format::AppleDo =>
             "Apple II, exact to the cell, in the order of DOS 3.3, 35 cylinders, 16 sectors",
         Format::ApplePo =>

@@ -4,8 +4,10 @@
 
 mod data_field;
 mod header;
+mod heads;
 mod layout;
 mod recording;
 mod rows;
 
+pub use heads::HeadNumbers;
 pub use recording::IbmMfm;

@@ -4,8 +4,8 @@ ghost use Rattle.ibm_disks.specs.Numbers.{FillMfmTrack, code_of, size_of};
 ghost use Rattle.ibm_fields.specs.Fields.{sector_name, size_named as bytes_named};
 ghost use Rattle.ibm_mfm.specs.lemmas.DataSyncs.{own_data};
 ghost use Rattle.frame_law.specs.lemmas.OwnFrames.{fixed_ends};
-ghost use Rattle.ibm_mfm.specs.lemmas.DiskLaws.{counts, ends, header_short, size_told, sums, within_reach};
-ghost use Rattle.ibm_mfm.specs.Disks.{IsMfmTrack};
+ghost use Rattle.ibm_mfm.specs.lemmas.DiskLaws.{counts, ends, header_short, named_known, size_told, sums, within_reach};
+ghost use Rattle.ibm_mfm.specs.Disks.{IsMfmTrack, named_track};
 ghost use Rattle.ibm_mfm.specs.lemmas.FrameLaws.{frame_stands};
 ghost use Rattle.ibm_mfm.specs.lemmas.HeaderSyncs.{own_syncs};
 ghost use Rattle.ibm_mfm.specs.Layout.{row_cells, row_size, rows_of};
@@ -16,6 +16,7 @@ ghost use Rattle.ibm_mfm.specs.Syncs.{SyncAt};
 
 use crate::data_field::{has_field, next_sync, read_field};
 use crate::header::header_name;
+use crate::heads::HeadNumbers;
 use crate::layout::{HEADER_CELLS, LEAD_OUT, Row, SECTOR, around, data_cells, lead_in};
 use crate::rows::push_row;
 use cell_bits::Cells;
@@ -31,42 +32,57 @@ use mfm_coding::CODING;
 pub struct IbmMfm {
     /// The numbers of each of the disk's tracks.
     pub numbers: TrackNumbers,
+    /// How its headers number the heads.
+    pub heads: HeadNumbers,
 }
 
 impl IbmMfm {
     /// The PC's with 8 sectors a track (160 and 320 KB).
     pub const PC_8: IbmMfm = IbmMfm {
         numbers: TrackNumbers::PC_8,
+        heads: HeadNumbers::Same,
     };
 
     /// The PC's with 9 sectors a track (180, 360 and 720 KB), which the Atari ST and MSX have too.
     pub const PC_9: IbmMfm = IbmMfm {
         numbers: TrackNumbers::PC_9,
+        heads: HeadNumbers::Same,
     };
 
     /// The PC's with 15 sectors a track (1200 KB).
     pub const PC_15: IbmMfm = IbmMfm {
         numbers: TrackNumbers::PC_15,
+        heads: HeadNumbers::Same,
     };
 
     /// The PC's with 18 sectors a track (1440 KB).
     pub const PC_18: IbmMfm = IbmMfm {
         numbers: TrackNumbers::PC_18,
+        heads: HeadNumbers::Same,
     };
 
     /// The Atari ST's with 10 sectors a track (800 KB).
     pub const ATARI_10: IbmMfm = IbmMfm {
         numbers: TrackNumbers::ATARI_10,
+        heads: HeadNumbers::Same,
     };
 
     /// The Amstrad CPC's for data: 9 sectors a track, the first of which is C1 hexadecimal.
     pub const CPC_DATA: IbmMfm = IbmMfm {
         numbers: TrackNumbers::CPC_DATA,
+        heads: HeadNumbers::Same,
     };
 
     /// The Amstrad CPC's with a system: the same with 41 hexadecimal.
     pub const CPC_SYSTEM: IbmMfm = IbmMfm {
         numbers: TrackNumbers::CPC_SYSTEM,
+        heads: HeadNumbers::Same,
+    };
+
+    /// The Commodore 1581's: the Atari ST's 10 sectors a track, with the heads numbered the other way round.
+    pub const C1581: IbmMfm = IbmMfm {
+        numbers: TrackNumbers::ATARI_10,
+        heads: HeadNumbers::Exchanged,
     };
 
     /// Whether the numbers fill a track, as those of a disk do.
@@ -96,11 +112,11 @@ impl Layout for IbmMfm {
 
     ghost track_cells = { λ r track. 16 * r.numbers.bytes };
 
-    ghost names_sector = { λ r track cells s. NamesSector (code_of r.numbers.size) track cells s };
+    ghost names_sector = { λ r track cells s. NamesSector (code_of r.numbers.size) (named_track r.heads track) cells s };
 
     ghost names = { λ r cells name. Names cells name };
 
-    ghost is_name_of = { λ r track name s. name ≡ sector_name track s (code_of r.numbers.size) };
+    ghost is_name_of = { λ r track name s. name ≡ sector_name (named_track r.heads track) s (code_of r.numbers.size) };
 
     ghost is_sync = { λ r cells place. SyncAt cells place };
 
@@ -122,7 +138,7 @@ impl Layout for IbmMfm {
 
     ghost asks = { true };
 
-    ghost row_cells = { λ r track before s bytes row. row_cells r.numbers track before s bytes row };
+    ghost row_cells = { λ r track before s bytes row. row_cells r.numbers (named_track r.heads track) before s bytes row };
 
     ghost row_size = { λ r track count row. row_size r.numbers count row };
 
@@ -161,7 +177,8 @@ impl Layout for IbmMfm {
     }
 
     fn append_row(&self, of: &SectorBytes, row: Row, cells: &mut Cells) -> Result<(), Memory> {
-        push_row(cells, row, self.numbers, of.track, of.sector, of.bytes)
+        let named = self.heads.named_track(of.track);
+        push_row(cells, row, self.numbers, named, of.sector, of.bytes)
     }
 
     fn header_end(&self, frame: &CellsFrom) -> Option<usize> {
@@ -173,7 +190,8 @@ impl Layout for IbmMfm {
     }
 
     fn sector_named(&self, track: TrackId, name: HeaderName) -> Option<u8> {
-        name.sector_of_cylinder(track.cylinder, track.head, self.numbers.size.code())
+        let named = self.heads.named_track(track);
+        name.sector_of_cylinder(named.cylinder, named.head, self.numbers.size.code())
     }
 
     fn next_sync(&self, frame: &CellsFrom, from: usize, to: usize) -> Option<usize> {
@@ -206,13 +224,13 @@ impl Layout for IbmMfm {
 
     ghost sums = { λ r track known. sums r.numbers known.fills };
 
-    ghost row_length = { λ r track before s bytes row. row_length r.numbers track before s bytes row };
+    ghost row_length = { λ r track before s bytes row. row_length r.numbers (named_track r.heads track) before s bytes row };
 
-    ghost row_follows = { λ r track s bytes row known content. row_follows r.numbers track s bytes row };
+    ghost row_follows = { λ r track s bytes row known content. row_follows r.numbers (named_track r.heads track) s bytes row };
 
-    ghost ends = { λ r track before known. ends r.numbers known.fills track before };
+    ghost ends = { λ r track before known. ends r.numbers known.fills (named_track r.heads track) before };
 
-    ghost named_sector = { λ r track. named_sector (code_of r.numbers.size) track };
+    ghost named_sector = { λ r track. named_sector (code_of r.numbers.size) (named_track r.heads track) };
 
     ghost own_size = { λ r track name s is. ap bytes_named is ∙ size_told r.numbers.size };
 
@@ -225,7 +243,7 @@ impl Layout for IbmMfm {
     ghost content_size = { λ r cells sync xs held. bytes_held (size_of r.numbers.size) cells sync xs held };
 
     ghost frame_stands = { λ r track s bytes before rest known number fit long.
-        frame_stands r track s bytes before rest known number fit long };
+        frame_stands r (named_track r.heads track) s bytes before rest (named_known r track known) number fit long };
 
     ghost frame_ends = { λ r track s bytes before rest known number fit long.
         record { header_ends = refl; data_ends = refl } };
@@ -236,9 +254,9 @@ impl Layout for IbmMfm {
 
     ghost tells = { λ r. tells (size_of r.numbers.size) };
 
-    ghost own_syncs = { λ r track known. own_syncs r.numbers known.fills track };
+    ghost own_syncs = { λ r track known. own_syncs r.numbers known.fills (named_track r.heads track) };
 
     ghost header_syncs = { λ r. inl (λ cells place name stands named. marks_sync cells place name stands named) };
 
-    ghost own_data = { λ r track known. inr (own_data r.numbers known.fills track) };
+    ghost own_data = { λ r track known. inr (own_data r.numbers known.fills (named_track r.heads track)) };
 }

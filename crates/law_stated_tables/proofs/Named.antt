@@ -13,7 +13,7 @@ use Rattle.ibm_disks.specs.declared.track_numbers.LeadIn.TheVariants.{Indexed}
 use Rattle.sector_images.specs.Formats.{IsWordOfFormat, row, track_order}
 use Rattle.sector_images.specs.Places.{comes_before}
 use Rattle.sector_images.specs.declared.format.Format.{Format}
-use Rattle.sector_images.specs.declared.format.Format.TheVariants.{Ibm3740, Ibm360, Ibm720, Ibm1440, Amiga, C1541, C1541Forty, AppleDo, ApplePo, AppleDos33, AppleProdos, Mac400, Mac800, C1571, AmigaHd, C8050, C8250, Numbered}
+use Rattle.sector_images.specs.declared.format.Format.TheVariants.{Ibm3740, Ibm360, Ibm720, Ibm1440, Amiga, C1541, C1541Forty, AppleDo, ApplePo, AppleDos33, AppleProdos, Mac400, Mac800, C1571, AmigaHd, C8050, C8250, C1581, Numbered}
 use Rattle.law_stated_tables.specs.Laws.{GapsAreStated, HasStatedGaps, IsStated, NamesAreStated, is_before}
 use Rattle.law_stated_tables.specs.Table.{StatedFormat, stated_formats}
 use Rattle.law_stated_tables.specs.Words.{StatedGaps, stated_gaps}
@@ -60,7 +60,8 @@ stated_at k = get_or stated_formats k (record { word = []; cylinders = 0; heads 
 each : All Names stated_formats
 unfolding commodore_zone commodore_8050_zone macintosh_zone is_disk sound
 each =
-    let from_25 = All-cons Names (stated_at 25) (drop 26 stated_formats) (names _ C8250 refl refl refl refl refl refl refl refl (λ a b. refl) refl) (All-nil Names) in
+    let from_26 = All-cons Names (stated_at 26) (drop 27 stated_formats) (names _ C1581 refl refl refl refl refl refl refl refl (λ a b. refl) refl) (All-nil Names) in
+    let from_25 = All-cons Names (stated_at 25) (drop 26 stated_formats) (names _ C8250 refl refl refl refl refl refl refl refl (λ a b. refl) refl) from_26 in
     let from_24 = All-cons Names (stated_at 24) (drop 25 stated_formats) (names _ C8050 refl refl refl refl refl refl refl refl (λ a b. refl) refl) from_25 in
     let from_23 = All-cons Names (stated_at 23) (drop 24 stated_formats) (names _ AmigaHd refl refl refl refl refl refl refl refl (λ a b. refl) refl) from_24 in
     let from_22 = All-cons Names (stated_at 22) (drop 23 stated_formats) (names _ C1571 refl refl refl refl refl refl refl refl (λ a b. refl) refl) from_23 in

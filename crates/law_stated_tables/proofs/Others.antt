@@ -12,7 +12,7 @@ use Rattle.ibm_disks.specs.declared.disk.IbmDisk.{IbmDisk}
 use Rattle.ibm_disks.specs.declared.word.DiskNumbers.{DiskNumbers}
 use Rattle.sector_images.specs.Formats.{IsWordOfFormat, WordsNameFormats}
 use Rattle.sector_images.specs.declared.format.Format.{Format}
-use Rattle.sector_images.specs.declared.format.Format.TheVariants.{Ibm3740, Ibm360, Ibm720, Ibm1440, Amiga, C1541, C1541Forty, AppleDo, ApplePo, AppleDos33, AppleProdos, Mac400, Mac800, C1571, AmigaHd, C8050, C8250, Numbered}
+use Rattle.sector_images.specs.declared.format.Format.TheVariants.{Ibm3740, Ibm360, Ibm720, Ibm1440, Amiga, C1541, C1541Forty, AppleDo, ApplePo, AppleDos33, AppleProdos, Mac400, Mac800, C1571, AmigaHd, C8050, C8250, C1581, Numbered}
 use Rattle.law_stated_tables.specs.Laws.{IsStated, IsStatedName, IsStatedWord, NoOtherWords}
 use Rattle.law_stated_tables.specs.Table.{StatedFormat, stated_formats}
 use Rattle.law_stated_tables.specs.Words.{AreNumbers, FitTrack, StatedNumbers, WritesNumbers, bytes_of_turn, numbers_text, stated_by}
@@ -127,6 +127,7 @@ stated_word word C1571 is = inl (stated_at 22, (22, omega arith, refl), is)
 stated_word word AmigaHd is = inl (stated_at 23, (23, omega arith, refl), is)
 stated_word word C8050 is = inl (stated_at 24, (24, omega arith, refl), is)
 stated_word word C8250 is = inl (stated_at 25, (25, omega arith, refl), is)
+stated_word word C1581 is = inl (stated_at 26, (26, omega arith, refl), is)
 stated_word word (Numbered disk) is = of_disk word disk is
 
 -- so the format that it names is the one that has the numbers

@@ -20,7 +20,7 @@ use Rattle.ibm_disks.specs.declared.track_numbers.LeadIn.TheVariants.{Indexed, B
 use Rattle.ibm_disks.specs.declared.track_numbers.TrackNumbers.{TrackNumbers}
 use Rattle.sector_images.specs.Formats.{IsWordOfFormat, row, zone}
 use Rattle.sector_images.specs.declared.format.Format.{Format}
-use Rattle.sector_images.specs.declared.format.Format.TheVariants.{Ibm3740, Ibm360, Ibm720, Ibm1440, Amiga, C1541, C1541Forty, AppleDo, ApplePo, AppleDos33, AppleProdos, Mac400, Mac800, C1571, AmigaHd, C8050, C8250}
+use Rattle.sector_images.specs.declared.format.Format.TheVariants.{Ibm3740, Ibm360, Ibm720, Ibm1440, Amiga, C1541, C1541Forty, AppleDo, ApplePo, AppleDos33, AppleProdos, Mac400, Mac800, C1571, AmigaHd, C8050, C8250, C1581}
 use Rattle.track_rings.specs.Rows.{total}
 use Rattle.law_stated_tables.specs.PlaceLaws.{HasPlaces, NumberedPlacesAreStated, PlacesAreStated}
 use Rattle.law_stated_tables.specs.Places.{StatedPlaces, bytes_around, bytes_before, stated_places}
@@ -65,7 +65,8 @@ places_at k = get_or stated_places k (record { word = []; first = 0; end = 0; be
 each : All Places stated_places
 unfolding commodore_zone commodore_8050_zone macintosh_zone total
 each =
-    let from_31 = All-cons Places (places_at 31) (drop 32 stated_places) (stand (places_at 31) C8250 refl (λ t s. refl) refl) (All-nil Places) in
+    let from_32 = All-cons Places (places_at 32) (drop 33 stated_places) (stand (places_at 32) C1581 refl (λ t s. refl) refl) (All-nil Places) in
+    let from_31 = All-cons Places (places_at 31) (drop 32 stated_places) (stand (places_at 31) C8250 refl (λ t s. refl) refl) from_32 in
     let from_30 = All-cons Places (places_at 30) (drop 31 stated_places) (stand (places_at 30) C8250 refl (λ t s. refl) refl) from_31 in
     let from_29 = All-cons Places (places_at 29) (drop 30 stated_places) (stand (places_at 29) C8250 refl (λ t s. refl) refl) from_30 in
     let from_28 = All-cons Places (places_at 28) (drop 29 stated_places) (stand (places_at 28) C8250 refl (λ t s. refl) refl) from_29 in

@@ -49,7 +49,8 @@ stated_places =
     ∷ places (codes "c8250") 0 39 30 3176
     ∷ places (codes "c8250") 39 53 30 3168
     ∷ places (codes "c8250") 53 64 30 3200
-    ∷ places (codes "c8250") 64 77 30 3256 ∷ []
+    ∷ places (codes "c8250") 64 77 30 3256
+    ∷ places (codes "c1581") 0 80 2528 9664 ∷ []
 
 -- Of a disk of IBM's recordings by its numbers: the bytes before the first sector's header, and those from one to the next beside the bytes of a
 -- sector and the gap behind it. In MFM a gap of 80, 12 zeros, the mark and a gap of 50, or a gap of 10; 12 zeros before each header, or 3; its

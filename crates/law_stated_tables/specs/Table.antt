@@ -73,7 +73,7 @@ commodore_disk word cylinders heads image = record {
   zones = commodore 0 17 21 13 ∷ commodore 17 24 19 14 ∷ commodore 24 30 18 15 ∷ commodore 30 cylinders 17 16 ∷ [];
 }
 
--- Commodore 8050 and 8250: a clock of 12 MHz is divided by 26, 28, 30 and 32, and each gives a cell.
+-- Commodore 8050 and 8250: a clock of 12 MHz is divided by 26, 28, 30 or 32, and gives a cell.
 abbrev pub commodore_8050 : (first end sectors periods : ℕ) → StatedZone
 commodore_8050 first end sectors periods = record {
   first = first;
@@ -85,8 +85,8 @@ commodore_8050 first end sectors periods = record {
   is_even = true;
 }
 
--- The zones of tracks 1 to 39, 40 to 53, 54 to 64 and 65 to 77. Of the 8250's disk the second head has all
--- tracks from 78 on.
+-- The zones of tracks 1 to 39, 40 to 53, 54 to 64 and 65 to 77. Of the 8250's disk the second head
+-- has all tracks from 78 on.
 abbrev pub commodore_8050_disk : List ℕ → (heads image : ℕ) → StatedFormat
 commodore_8050_disk word heads image = record {
   word = word;
@@ -182,4 +182,5 @@ stated_formats =
     ∷ stated (codes "amiga-hd") 80 2 22 512 0 500 300 1802240
     ∷ commodore_8050_disk (codes "c8050") 1 533248
     ∷ commodore_8050_disk (codes "c8250") 2 1066496
+    ∷ stated (codes "c1581") 80 2 10 512 1 250 300 819200
     ∷ []

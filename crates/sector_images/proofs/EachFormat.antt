@@ -8,7 +8,7 @@ use Rattle.std.proofs.lemmas.List.Sums.{AllPass-from_list_all}
 use Rattle.sector_images.specs.Formats.{further, has_row, specified}
 use Rattle.ibm_disks.specs.declared.disk.IbmDisk.{IbmDisk}
 use Rattle.sector_images.specs.declared.format.Format.{Format}
-use Rattle.sector_images.specs.declared.format.Format.TheVariants.{Ibm3740, Ibm360, Ibm720, Ibm1440, Amiga, C1541, C1541Forty, AppleDo, ApplePo, AppleDos33, AppleProdos, Mac400, Mac800, C1571, AmigaHd, C8050, C8250, Numbered}
+use Rattle.sector_images.specs.declared.format.Format.TheVariants.{Ibm3740, Ibm360, Ibm720, Ibm1440, Amiga, C1541, C1541Forty, AppleDo, ApplePo, AppleDos33, AppleProdos, Mac400, Mac800, C1571, AmigaHd, C8050, C8250, C1581, Numbered}
 
 -- those that have a row of their own
 abbrev pub rows : List Format
@@ -33,7 +33,8 @@ number_of C1571 = 13
 number_of AmigaHd = 14
 number_of C8050 = 15
 number_of C8250 = 16
-number_of (Numbered disk) = 17
+number_of C1581 = 17
+number_of (Numbered disk) = 18
 
 is_listed : (f : Format) → has_row f ≡ true → Contains rows f
 is_listed (Numbered disk) known = absurd (cc)

@@ -11,14 +11,14 @@ use Rattle.ibm_disks.specs.declared.rate.Rate.TheVariants.{Double, High, HighAt3
 use Rattle.sector_images.specs.declared.format.Format.{Format}
 use Rattle.sector_images.specs.declared.format.TrackOrder.{TrackOrder}
 use Rattle.sector_images.specs.declared.format.TrackOrder.TheVariants.{ByCylinder, ByHead}
-use Rattle.sector_images.specs.declared.format.Format.TheVariants.{Ibm3740, Ibm360, Ibm720, Ibm1440, Amiga, C1541, C1541Forty, AppleDo, ApplePo, AppleDos33, AppleProdos, Mac400, Mac800, C1571, AmigaHd, C8050, C8250, Numbered}
+use Rattle.sector_images.specs.declared.format.Format.TheVariants.{Ibm3740, Ibm360, Ibm720, Ibm1440, Amiga, C1541, C1541Forty, AppleDo, ApplePo, AppleDos33, AppleProdos, Mac400, Mac800, C1571, AmigaHd, C8050, C8250, C1581, Numbered}
 
 -- the specified formats, and those of our own that are no disks of one of IBM's two recordings
 abbrev pub specified : List Format
 specified = Ibm3740 ∷ Ibm360 ∷ Ibm720 ∷ Ibm1440 ∷ Amiga ∷ C1541 ∷ C1541Forty ∷ AppleDo ∷ ApplePo ∷ []
 
 abbrev pub further : List Format
-further = AppleDos33 ∷ AppleProdos ∷ Mac400 ∷ Mac800 ∷ C1571 ∷ AmigaHd ∷ C8050 ∷ C8250 ∷ []
+further = AppleDos33 ∷ AppleProdos ∷ Mac400 ∷ Mac800 ∷ C1571 ∷ AmigaHd ∷ C8050 ∷ C8250 ∷ C1581 ∷ []
 
 -- all formats that have a name, in the order of their table
 abbrev pub formats : List Format
@@ -204,6 +204,15 @@ row C8250 = record {
   image_size = 1066496;
   order = None;
 }
+row C1581 = record {
+  word = codes "c1581";
+  cylinders = 80;
+  heads = 2;
+  first_sector = 1;
+  sector_size = 512;
+  image_size = 819200;
+  order = None;
+}
 row (Numbered disk) = record {
   word = disk_word disk;
   cylinders = cylinders_of disk;
@@ -214,8 +223,8 @@ row (Numbered disk) = record {
   order = None;
 }
 
--- the order of the tracks, in the image and where streams are joined: the Commodore 1571's disk and the 8250's have all of a
--- head one after another
+-- the order of the tracks, in the image and where streams are joined: the Commodore 1571's and 8250's
+-- disks have all of a head one after another
 abbrev pub track_order : Format → TrackOrder
 track_order C1571 = ByHead
 track_order C8250 = ByHead
@@ -259,6 +268,7 @@ zone C1571 cylinder = commodore_zone cylinder
 zone AmigaHd cylinder = record { sectors = 22; nominal = fine_units 4; ring_cells = 200000 }
 zone C8050 cylinder = commodore_8050_zone cylinder
 zone C8250 cylinder = commodore_8050_zone cylinder
+zone C1581 cylinder = record { sectors = 10; nominal = fine_units 8; ring_cells = 100000 }
 zone (Numbered disk) cylinder = record {
   sectors = (track_of_disk disk).sectors;
   nominal = cell_of (rate_of disk);

@@ -44,12 +44,15 @@ pub enum Format {
     C8050,
     /// The Commodore 8250's disk: the same on each of two heads (GCR).
     C8250,
+    /// The Commodore 1581's disk: 80 cylinders of two heads, 10 sectors of 512 bytes, double density (MFM), with the
+    /// heads numbered the other way round in its headers.
+    C1581,
     /// A disk of one of IBM's two recordings by its numbers, which may have a name too.
     Numbered(IbmDisk),
 }
 
 /// All formats that have a name.
-const FORMATS: [Format; 26] = [
+const FORMATS: [Format; 27] = [
     Format::Ibm3740,
     Format::Ibm360,
     Format::Ibm720,
@@ -76,6 +79,7 @@ const FORMATS: [Format; 26] = [
     Format::AmigaHd,
     Format::C8050,
     Format::C8250,
+    Format::C1581,
 ];
 
 /// All formats that have a name, in the order of their table.
@@ -128,6 +132,7 @@ impl Format {
             Format::AmigaHd => name_word("amiga-hd"),
             Format::C8050 => name_word("c8050"),
             Format::C8250 => name_word("c8250"),
+            Format::C1581 => name_word("c1581"),
             Format::Numbered(disk) => disk.word(),
         }
     }
@@ -319,6 +324,14 @@ impl Format {
                 image_size: 1066496,
                 order: None,
             },
+            Format::C1581 => Geometry {
+                cylinders: 80,
+                heads: 2,
+                first_sector: 1,
+                sector_size: 512,
+                image_size: 819200,
+                order: None,
+            },
             Format::Numbered(disk) => geometry_of(disk),
         }
     }
@@ -348,6 +361,11 @@ impl Format {
             },
             Format::Ibm360 | Format::Ibm720 => Zone {
                 sectors: 9,
+                nominal: 49208,
+                ring_cells: 100000,
+            },
+            Format::C1581 => Zone {
+                sectors: 10,
                 nominal: 49208,
                 ring_cells: 100000,
             },

@@ -21,8 +21,8 @@ pub fn track_count(format: Format) -> u32
     u32::from(geometry.cylinders) * u32::from(geometry.heads)
 }
 
-/// The track of this number from 0, in the format's order: cylinder, then head, or for a Commodore 1571's or 8250's disk
-/// head, then cylinder.
+/// The track of this number from 0, in the format's order: cylinder, then head, or for a Commodore 1571's or 8250's
+/// disk head, then cylinder.
 pub fn track_id(format: Format, number: u32) -> TrackId
     requires { number < length (tracks format) }
     ensures at { slice_get (tracks format) number ≡ Some result }

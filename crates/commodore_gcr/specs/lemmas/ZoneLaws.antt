@@ -1,5 +1,5 @@
 -- What the zones have in common.
-use Rattle.std.specs.Prelude.{◌≡◌, ℕ, ◌+◌, ◌/◌, ◌<◌, ◌≤◌, refl}
+use Rattle.std.specs.Prelude.{◌≡◌, ◌+◌, ◌/◌, ◌<◌, ◌≤◌, refl}
 use Rattle.std.proofs.Common.{arith, lit<, lit≤}
 use Rattle.flux_base.specs.Bounds.{LONGEST_RING, MOST_SECTOR_BYTES}
 use Rattle.flux_base.specs.declared.track.TrackId.{TrackId}

@@ -98,10 +98,7 @@ const TOLD: &[(&str, &str)] = &[
     ("d71", "no format d71; try: c1571\n"),
     ("d80", "no format d80; try: c8050\n"),
     ("D82", "no format D82; try: c8250\n"),
-    (
-        "D81",
-        "no format D81; a Commodore 1581's disks have none yet\n",
-    ),
+    ("D81", "no format D81; try: c1581\n"),
     ("do", "no format do; try: apple-dos33\n"),
     ("dsk", "no format dsk; try: apple-dos33\n"),
     ("po", "no format po; try: apple-prodos\n"),

@@ -3,7 +3,7 @@ use super::rings::{Numbers, assert_data_bytes, read_back_by_chance};
 use flux_base::TrackId;
 use ibm_disks::{Rate, SectorSize, TrackNumbers};
 use ibm_fm::IbmFm;
-use ibm_mfm::IbmMfm;
+use ibm_mfm::{HeadNumbers, IbmMfm};
 use std::test::Fail;
 
 const TRACK: TrackId = TrackId {
@@ -117,6 +117,7 @@ fn reads_double_density_back(rt: HostRuntime) -> Result<(), Fail> {
         let asked = TrackNumbers::of_disk(*rate, *sectors, *first, *size);
         let disk = IbmMfm {
             numbers: asked.unwrap_or(TrackNumbers::PC_8),
+            heads: HeadNumbers::Same,
         };
         assert!(rt; disk.fills_track());
         let ring = read_back_by_chance(&rt, rt.alloc(), &disk, TRACK, numbers)?;
