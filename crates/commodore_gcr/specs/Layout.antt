@@ -1,19 +1,22 @@
--- The rows of a track of Commodore's disks: its sectors one after another, with no gap of its own where
--- it begins.
+-- The rows of a track of Commodore's disks: its sectors one after another, with no
+-- gap of its own where it begins.
 use Rattle.std.specs.Prelude.{ℕ, ◌+◌, ◌-◌, ◌*◌, ◌/◌, Bool, true, false, List, [], ◌∷◌, replicate}
 use Rattle.flux_base.specs.declared.track.TrackId.{TrackId}
 use Rattle.disk_zones.specs.declared.zones.Zone.{Zone}
 use Rattle.track_rings.specs.Rows.{Rows, ring_of as ring_of_rows}
 use Rattle.commodore_gcr.specs.declared.drive.CommodoreDrive.{CommodoreDrive}
 use Rattle.commodore_gcr.specs.declared.layout.Row.{Row}
-use Rattle.commodore_gcr.specs.declared.layout.Row.TheVariants.{SyncLead, SyncOnes, HeaderBlock, HeaderGap, DataBytes, DataFill, ZoneGap}
+use Rattle.commodore_gcr.specs.declared.layout.Row.TheVariants.{SyncLead, SyncOnes, HeaderBlock}
+use Rattle.commodore_gcr.specs.declared.layout.Row.TheVariants.{HeaderGap, DataBytes, DataFill}
+use Rattle.commodore_gcr.specs.declared.layout.Row.TheVariants.{ZoneGap}
 use Rattle.commodore_gcr.specs.declared.recording.CommodoreGcr.{CommodoreGcr}
 use Rattle.commodore_gcr.specs.Coding.{gcr_bytes, raw_bytes}
 use Rattle.commodore_gcr.specs.Sectors.{DATA_FILL, SECTOR_SIZE, data_bytes, header_block}
 use Rattle.commodore_gcr.specs.Zones.{sectors_of, zone_of}
 
--- A sector: a sync mark of 40 ones, header block, gap, sync mark, data block, and the zone's gap. Its frame begins with the last
--- ten ones of the first sync mark, and ends before the two bytes that fill the data block up.
+-- A sector: a sync mark of 40 ones, header block, gap, sync mark, data block, and the zone's
+-- gap. Its frame begins with the last ten ones of the first sync mark, and ends before the two
+-- bytes that fill the data block up.
 abbrev pub rows : Rows Row
 rows = record {
   lead_in = [];

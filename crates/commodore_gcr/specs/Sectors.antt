@@ -1,12 +1,13 @@
--- The sectors of the disks of Commodore's drives (group code): the bytes of their two blocks, what a
--- header names and what data hold.
+-- The sectors of the disks of Commodore's drives (group code): the bytes of their two blocks, what
+-- a header names and what data hold.
 use Rattle.std.specs.Prelude.{◌≡◌, ℕ, ◌+◌, Bool, List, [], ◌∷◌, ◌++◌, length}
 use Rattle.flux_base.specs.declared.track.TrackId.{TrackId}
 use Rattle.cell_bits.specs.Word.{Stands}
 use Rattle.check_values.specs.Sums.{xor}
 use Rattle.frame_law.specs.Frames.{DataStand, HeaderStands as Header, SectorStands as Sector}
 use Rattle.flux_base.specs.declared.header_name.HeaderName.{HeaderName}
-use Rattle.flux_base.specs.declared.header_name.HeaderName.TheVariants.{Address, TrackSector, TrackSectorSide}
+use Rattle.flux_base.specs.declared.header_name.HeaderName.TheVariants.{Address, TrackSector}
+use Rattle.flux_base.specs.declared.header_name.HeaderName.TheVariants.{TrackSectorSide}
 use Rattle.commodore_gcr.specs.Coding.{ByteAt, BytesAt}
 use Rattle.commodore_gcr.specs.declared.drive.CommodoreDrive.{CommodoreDrive}
 use Rattle.commodore_gcr.specs.Zones.{sectors_of, track_number}
@@ -40,7 +41,8 @@ header_bytes drive id1 id2 track sector = numbered_bytes id1 id2 (track_number d
 
 -- with the two bytes that fill the block up
 abbrev pub header_block : CommodoreDrive → ℕ → ℕ → TrackId → ℕ → List ℕ
-header_block drive id1 id2 track sector = header_bytes drive id1 id2 track sector ++ 0x0F ∷ 0x0F ∷ []
+header_block drive id1 id2 track sector =
+    header_bytes drive id1 id2 track sector ++ 0x0F ∷ 0x0F ∷ []
 
 -- data: their first byte, a sector's bytes, and their check value
 abbrev pub data_bytes : List ℕ → List ℕ
@@ -65,7 +67,8 @@ SYNC_ONES = 10
 abbrev pub HEADER_CELLS : ℕ
 HEADER_CELLS = 70
 
--- a header names the numbers of a track and a sector: the header's bytes of these stand in it, for some id
+-- a header names the numbers of a track and a sector: the header's bytes of
+-- these stand in it, for some id
 pub record NamesNumbers (number : ℕ) (cells : List Bool) (sector : ℕ) : Type 0 where
   pub id1 : ℕ
   pub id2 : ℕ
@@ -106,8 +109,10 @@ pub record Hold (cells : List Bool) (sync : ℕ) (bytes : List ℕ) : Type 0 whe
 -- a header and a sector stand, as on any track
 abbrev pub HeaderStands : CommodoreDrive → TrackId → List Bool → ℕ → Type 0
 HeaderStands drive track cells sector =
-    Header SYNC SYNC_CELLS (λ some. HEADER_CELLS) 0 (sectors_of drive track) (NamesSector drive track) cells sector
+    Header SYNC SYNC_CELLS (λ some. HEADER_CELLS) 0 (sectors_of drive track)
+    (NamesSector drive track) cells sector
 
 abbrev pub SectorStands : CommodoreDrive → TrackId → List Bool → ℕ → List ℕ → Type 0
 SectorStands drive track cells sector bytes =
-    Sector (HeaderStands drive track cells sector) (DataStand (λ some. HEADER_CELLS) (λ some sync. sync + DATA_CELLS) IsSync Hold cells bytes)
+    Sector (HeaderStands drive track cells sector)
+    (DataStand (λ some. HEADER_CELLS) (λ some sync. sync + DATA_CELLS) IsSync Hold cells bytes)

@@ -1,4 +1,5 @@
--- The tracks of the disks of Commodore's drives, in zones that differ in how many sectors they have.
+-- The tracks of the disks of Commodore's drives, in zones that differ
+-- in how many sectors they have.
 use Rattle.std.specs.Prelude.{ℕ, ◌+◌, ◌*◌, ◌<◌}
 use Rattle.flux_base.specs.declared.track.TrackId.{TrackId}
 use Rattle.commodore_gcr.specs.declared.drive.CommodoreDrive.{CommodoreDrive}
@@ -6,8 +7,8 @@ use Rattle.commodore_gcr.specs.declared.drive.CommodoreDrive.TheVariants.{C1541,
 use Rattle.disk_zones.specs.Zones.{commodore_8050_zone, commodore_zone}
 use Rattle.disk_zones.specs.declared.zones.Zone.{Zone}
 
--- The cylinders that a disk may have: 40, of which a 1541's has the first 35 or all on one side, and
--- a 1571's the first 35 on both; an 8050's has 77 on one side, and an 8250's on both.
+-- The cylinders that a disk may have: 40, of which a 1541's has the first 35 or all on one side,
+-- and a 1571's the first 35 on both; an 8050's has 77 on one side, and an 8250's on both.
 abbrev pub cylinders_of : CommodoreDrive → ℕ
 cylinders_of C1541 = 40
 cylinders_of C8050 = 77

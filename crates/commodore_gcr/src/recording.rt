@@ -10,7 +10,8 @@ ghost use Rattle.commodore_gcr.specs.lemmas.RowLaws.{row_follows, row_length};
 ghost use Rattle.commodore_gcr.specs.Sectors.{Hold, IsSync, Names, NamesSector};
 ghost use Rattle.commodore_gcr.specs.lemmas.Syncs.{own_syncs};
 ghost use Rattle.commodore_gcr.specs.lemmas.ZoneLaws.{counts, sums};
-ghost use Rattle.commodore_gcr.specs.Zones.{IsCommodoreTrack, sectors_of, track_number as number_of_track, zone_of as zone_of_track};
+ghost use Rattle.commodore_gcr.specs.Zones.{IsCommodoreTrack, sectors_of, track_number as number_of_track};
+ghost use Rattle.commodore_gcr.specs.Zones.{zone_of as zone_of_track};
 
 use crate::data_block::{next_sync, read_block};
 use crate::drive::CommodoreDrive;

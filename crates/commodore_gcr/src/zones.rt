@@ -1,6 +1,7 @@
 ghost use Rattle.std.specs.Prelude.{◌≡◌};
 ghost use Rattle.commodore_gcr.specs.Layout.{gap_bytes};
-ghost use Rattle.commodore_gcr.specs.Zones.{IsCommodoreTrack, track_number as number_of_track, zone_of as zone_of_track};
+ghost use Rattle.commodore_gcr.specs.Zones.{IsCommodoreTrack, track_number as number_of_track};
+ghost use Rattle.commodore_gcr.specs.Zones.{zone_of as zone_of_track};
 
 use crate::drive::CommodoreDrive;
 use crate::layout::SECTOR_CELLS;

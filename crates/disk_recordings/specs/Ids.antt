@@ -2,7 +2,8 @@
 use Rattle.std.specs.Prelude.{Option, Some, None}
 use Rattle.disk_recordings.specs.declared.disk_id.IdPlace.{IdPlace}
 use Rattle.sector_images.specs.declared.format.Format.{Format}
-use Rattle.sector_images.specs.declared.format.Format.TheVariants.{C1541, C1541Forty, C1571, C8050, C8250}
+use Rattle.sector_images.specs.declared.format.Format.TheVariants.{C1541, C1541Forty, C1571, C8050}
+use Rattle.sector_images.specs.declared.format.Format.TheVariants.{C8250}
 
 -- of a Commodore 1541's or 1571's disk: in track 18, counted from 1
 abbrev pub id_of_1541 : IdPlace

@@ -2,16 +2,19 @@
 use Rattle.either.specs.declared.Either.{Either}
 use Rattle.either.specs.declared.Either.TheVariants.{Left, Right}
 use Rattle.amiga_mfm.specs.declared.recording.AmigaMfm.{AmigaMfm}
-use Rattle.amiga_mfm.specs.declared.recording.AmigaMfm.TheVariants.{DoubleDensity as AmigaDouble, HighDensity}
+use Rattle.amiga_mfm.specs.declared.recording.AmigaMfm.TheVariants.{DoubleDensity as AmigaDouble}
+use Rattle.amiga_mfm.specs.declared.recording.AmigaMfm.TheVariants.{HighDensity}
 use Rattle.apple_gcr.specs.declared.recording.AppleGcr.{AppleGcr}
 use Rattle.apple_gcr.specs.declared.disk_bytes.ByteRule.TheVariants.{Strict, Controller}
 use Rattle.commodore_gcr.specs.declared.drive.CommodoreDrive.{CommodoreDrive}
-use Rattle.commodore_gcr.specs.declared.drive.CommodoreDrive.TheVariants.{C1541 as Drive1541, C8050 as Drive8050}
+use Rattle.commodore_gcr.specs.declared.drive.CommodoreDrive.TheVariants.{C1541 as Drive1541}
+use Rattle.commodore_gcr.specs.declared.drive.CommodoreDrive.TheVariants.{C8050 as Drive8050}
 use Rattle.commodore_gcr.specs.declared.recording.CommodoreGcr.{CommodoreGcr}
 use Rattle.ibm_disks.specs.Disks.{rate_of, track_of_disk}
 use Rattle.ibm_disks.specs.Plans.{density_of}
 use Rattle.ibm_disks.specs.declared.rate.Density.{Density}
-use Rattle.ibm_disks.specs.declared.rate.Density.TheVariants.{Single as SingleDensity, Double as DoubleDensity}
+use Rattle.ibm_disks.specs.declared.rate.Density.TheVariants.{Single as SingleDensity}
+use Rattle.ibm_disks.specs.declared.rate.Density.TheVariants.{Double as DoubleDensity}
 use Rattle.ibm_disks.specs.declared.track_numbers.TrackNumbers.{TrackNumbers}
 use Rattle.ibm_fm.specs.declared.recording.IbmFm.{IbmFm}
 use Rattle.ibm_fm.specs.Disks.{ibm_3740}
@@ -19,14 +22,21 @@ use Rattle.ibm_mfm.specs.declared.heads.HeadNumbers.TheVariants.{Same}
 use Rattle.ibm_mfm.specs.declared.recording.IbmMfm.{IbmMfm}
 use Rattle.ibm_mfm.specs.Disks.{c1581, pc_18, pc_9}
 use Rattle.macintosh_gcr.specs.declared.recording.MacintoshGcr.{MacintoshGcr}
-use Rattle.macintosh_gcr.specs.declared.recording.MacintoshGcr.TheVariants.{SingleSided, DoubleSided}
+use Rattle.macintosh_gcr.specs.declared.recording.MacintoshGcr.TheVariants.{SingleSided}
+use Rattle.macintosh_gcr.specs.declared.recording.MacintoshGcr.TheVariants.{DoubleSided}
 use Rattle.sector_images.specs.declared.format.Format.{Format}
-use Rattle.sector_images.specs.declared.format.Format.TheVariants.{Ibm3740, Ibm360, Ibm720, Ibm1440, Amiga, C1541, C1541Forty, AppleDo, ApplePo, AppleDos33, AppleProdos, Mac400, Mac800, C1571, AmigaHd, C8050, C8250, C1581, Numbered}
+use Rattle.sector_images.specs.declared.format.Format.TheVariants.{Ibm3740, Ibm360, Ibm720, Ibm1440}
+use Rattle.sector_images.specs.declared.format.Format.TheVariants.{Amiga, C1541, C1541Forty}
+use Rattle.sector_images.specs.declared.format.Format.TheVariants.{AppleDo, ApplePo, AppleDos33}
+use Rattle.sector_images.specs.declared.format.Format.TheVariants.{AppleProdos, Mac400, Mac800}
+use Rattle.sector_images.specs.declared.format.Format.TheVariants.{C1571, AmigaHd, C8050, C8250}
+use Rattle.sector_images.specs.declared.format.Format.TheVariants.{C1581, Numbered}
 use Rattle.disk_recordings.specs.declared.disk_id.DiskId.{DiskId}
 
 -- one of the recordings
 abbrev pub DiskRecording : Type 0
-DiskRecording = Either IbmFm (Either IbmMfm (Either AmigaMfm (Either CommodoreGcr (Either AppleGcr MacintoshGcr))))
+DiskRecording = Either IbmFm
+    (Either IbmMfm (Either AmigaMfm (Either CommodoreGcr (Either AppleGcr MacintoshGcr))))
 
 -- the recording of a density, with the numbers of a track
 abbrev pub numbered_by : Density → TrackNumbers → DiskRecording
@@ -35,7 +45,8 @@ numbered_by DoubleDensity track = Right (Left (record { numbers = track; heads =
 
 -- that of the disks of one of Commodore's drives
 abbrev pub commodore_by : CommodoreDrive → DiskId → DiskRecording
-commodore_by drive id = Right (Right (Right (Left (record { drive = drive; id1 = id.first; id2 = id.second }))))
+commodore_by drive id =
+    Right (Right (Right (Left (record { drive = drive; id1 = id.first; id2 = id.second }))))
 
 -- the recording of a format's tracks, on a disk with this id
 abbrev pub recording_of : Format → DiskId → DiskRecording

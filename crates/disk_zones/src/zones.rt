@@ -1,5 +1,6 @@
 ghost use Rattle.std.specs.Prelude.{◌≡◌};
-ghost use Rattle.disk_zones.specs.Zones.{commodore_8050_zone as zone_of_8050, commodore_zone as zone_of_commodore, macintosh_zone as zone_of_macintosh};
+ghost use Rattle.disk_zones.specs.Zones.{commodore_8050_zone as zone_of_8050, commodore_zone as zone_of_commodore};
+ghost use Rattle.disk_zones.specs.Zones.{macintosh_zone as zone_of_macintosh};
 
 /// A zone of a disk: what tracks of neighbouring cylinders have in common.
 #[derive(Clone, Copy, Debug)]

@@ -112,7 +112,8 @@ impl Layout for IbmMfm {
 
     ghost track_cells = { λ r track. 16 * r.numbers.bytes };
 
-    ghost names_sector = { λ r track cells s. NamesSector (code_of r.numbers.size) (named_track r.heads track) cells s };
+    ghost names_sector = { λ r track cells s.
+        NamesSector (code_of r.numbers.size) (named_track r.heads track) cells s };
 
     ghost names = { λ r cells name. Names cells name };
 
@@ -138,7 +139,8 @@ impl Layout for IbmMfm {
 
     ghost asks = { true };
 
-    ghost row_cells = { λ r track before s bytes row. row_cells r.numbers (named_track r.heads track) before s bytes row };
+    ghost row_cells = { λ r track before s bytes row.
+        row_cells r.numbers (named_track r.heads track) before s bytes row };
 
     ghost row_size = { λ r track count row. row_size r.numbers count row };
 
@@ -224,9 +226,11 @@ impl Layout for IbmMfm {
 
     ghost sums = { λ r track known. sums r.numbers known.fills };
 
-    ghost row_length = { λ r track before s bytes row. row_length r.numbers (named_track r.heads track) before s bytes row };
+    ghost row_length = { λ r track before s bytes row.
+        row_length r.numbers (named_track r.heads track) before s bytes row };
 
-    ghost row_follows = { λ r track s bytes row known content. row_follows r.numbers (named_track r.heads track) s bytes row };
+    ghost row_follows = { λ r track s bytes row known content.
+        row_follows r.numbers (named_track r.heads track) s bytes row };
 
     ghost ends = { λ r track before known. ends r.numbers known.fills (named_track r.heads track) before };
 

@@ -14,16 +14,22 @@ use Rattle.law_stated_tables.specs.Words.{recording}
 
 -- those of a format that has a name and no numbers, from its first sector on
 abbrev pub HasPlaces : StatedPlaces → Format → Type 0
-HasPlaces stated format = (track : TrackId) (sector : ℕ) → stated.first ≤ track.cylinder → track.cylinder < stated.end
+HasPlaces stated format =
+    (track : TrackId) (sector : ℕ) → stated.first ≤ track.cylinder → track.cylinder < stated.end
     → sector < (zone format track.cylinder).sectors
-    → place_in_ring format track ((row format).first_sector + sector) ≡ stated.begin + stated.pitch * sector
+    → place_in_ring format track ((row format).first_sector + sector)
+    ≡ stated.begin + stated.pitch * sector
 
 abbrev pub PlacesAreStated : Type 0
-PlacesAreStated = (stated : StatedPlaces) → Contains stated_places stated → (format : Format) × IsWordOfFormat stated.word format × HasPlaces stated format
+PlacesAreStated = (stated : StatedPlaces) → Contains stated_places stated
+    → (format : Format) × IsWordOfFormat stated.word format × HasPlaces stated format
 
 -- and those of all disks by their numbers, in bytes of 16 cells
 abbrev pub NumberedPlacesAreStated : Type 0
-NumberedPlacesAreStated = (disk : IbmDisk) (is_mfm : Bool) → density_of (rate_of disk) ≡ recording is_mfm → (track : TrackId) (sector : ℕ)
+NumberedPlacesAreStated = (disk : IbmDisk) (is_mfm : Bool)
+    → density_of (rate_of disk) ≡ recording is_mfm → (track : TrackId) (sector : ℕ)
     → place_in_ring (Numbered disk) track ((track_of_disk disk).first_sector + sector)
     ≡ 16 * (bytes_before is_mfm (track_of_disk disk).lead_in
-    + (bytes_around is_mfm (track_of_disk disk).lead_in + size_of (track_of_disk disk).size + (track_of_disk disk).sector_gap) * sector)
+    + (bytes_around is_mfm (track_of_disk disk).lead_in + size_of (track_of_disk disk).size
+    + (track_of_disk disk).sector_gap)
+    * sector)

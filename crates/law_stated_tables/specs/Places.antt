@@ -3,8 +3,8 @@ use Rattle.std.specs.Prelude.{ℕ, ◌+◌, Bool, true, false, List, [], ◌∷�
 use Rattle.ibm_disks.specs.declared.track_numbers.LeadIn.{LeadIn}
 use Rattle.ibm_disks.specs.declared.track_numbers.LeadIn.TheVariants.{Indexed, Bare}
 
--- Of the format of a word, on the cylinders from a first one to before a last one: the place of the first sector, and the cells from one to the
--- next.
+-- Of the format of a word, on the cylinders from a first one to before a last one: the place of the
+-- first sector, and the cells from one to the next.
 pub record StatedPlaces : Type 0 where
   pub word : List ℕ
   pub first : ℕ
@@ -13,9 +13,11 @@ pub record StatedPlaces : Type 0 where
   pub pitch : ℕ
 
 abbrev places : List ℕ → (first end begin pitch : ℕ) → StatedPlaces
-places word first end begin pitch = record { word = word; first = first; end = end; begin = begin; pitch = pitch }
+places word first end begin pitch =
+    record { word = word; first = first; end = end; begin = begin; pitch = pitch }
 
--- the first cylinder and the one behind the last, the first place, and the cells from one to the next
+-- the first cylinder and the one behind the last, the first place, and
+-- the cells from one to the next
 abbrev pub stated_places : List StatedPlaces
 stated_places =
     places (codes "ibm-3740") 0 77 1264 3008
@@ -52,9 +54,11 @@ stated_places =
     ∷ places (codes "c8250") 64 77 30 3256
     ∷ places (codes "c1581") 0 80 2528 9664 ∷ []
 
--- Of a disk of IBM's recordings by its numbers: the bytes before the first sector's header, and those from one to the next beside the bytes of a
--- sector and the gap behind it. In MFM a gap of 80, 12 zeros, the mark and a gap of 50, or a gap of 10; 12 zeros before each header, or 3; its
--- 10 bytes, a gap of 22, 12 zeros and 6 bytes of the data. In FM 40, 6, the mark and 26, or 16; 6 zeros; 7, 11, 6 and 3.
+-- Of a disk of IBM's recordings by its numbers: the bytes before the first sector's header,
+-- and those from one to the next beside the bytes of a sector and the gap behind it. In MFM a
+-- gap of 80, 12 zeros, the mark and a gap of 50, or a gap of 10; 12 zeros before each header,
+-- or 3; its 10 bytes, a gap of 22, 12 zeros and 6 bytes of the data. In FM 40, 6, the mark and
+-- 26, or 16; 6 zeros; 7, 11, 6 and 3.
 abbrev pub bytes_before : (is_mfm : Bool) → LeadIn → ℕ
 bytes_before true Indexed = 80 + 12 + 4 + 50 + 12
 bytes_before true Bare = 10 + 3

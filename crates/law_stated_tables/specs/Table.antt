@@ -1,9 +1,12 @@
--- All formats that have a name once more, as their standards have them: a second table, which cites nothing of the first one.
-use Rattle.std.specs.Prelude.{ℕ, ◌*◌, ◌%◌, Bool, true, false, List, [], ◌∷◌, codes, if◌then◌else◌, nat_eq, nat_lt}
+-- All formats that have a name once more, as their standards have them: a second table, which
+-- cites nothing of the first one.
+use Rattle.std.specs.Prelude.{ℕ, ◌*◌, ◌%◌, Bool, true, false, List, [], ◌∷◌, codes, if◌then◌else◌}
+use Rattle.std.specs.Prelude.{nat_eq, nat_lt}
 use Rattle.law_stated_tables.specs.Speeds.{Speed, kilobits}
 
--- The cylinders from a first one to before a last one: the sectors of a track, how fast cells pass and the drive turns, the cells before the
--- parts that fill a ring, and the cells of such a part. The drive turns as fast for all cylinders, or not.
+-- The cylinders from a first one to before a last one: the sectors of a track, how fast cells pass
+-- and the drive turns, the cells before the parts that fill a ring, and the cells of such a part.
+-- The drive turns as fast for all cylinders, or not.
 pub record StatedZone : Type 0 where
   pub first : ℕ
   pub end : ℕ
@@ -13,9 +16,10 @@ pub record StatedZone : Type 0 where
   pub part : ℕ
   pub is_even : Bool
 
--- The word, cylinders, heads, the number of the first sector, the bytes of a sector and of the image, and the zones. In the image stand whole
--- cylinders one after another, or whole heads. The first 15 sectors of a track, from 0 on, stand so many places apart, modulo 15, among
--- those of their track, and the further ones by their numbers.
+-- The word, cylinders, heads, the number of the first sector, the bytes of a sector and of the
+-- image, and the zones. In the image stand whole cylinders one after another, or whole heads. The
+-- first 15 sectors of a track, from 0 on, stand so many places apart, modulo 15, among those of
+-- their track, and the further ones by their numbers.
 pub record StatedFormat : Type 0 where
   pub word : List ℕ
   pub cylinders : ℕ
@@ -31,8 +35,10 @@ pub record StatedFormat : Type 0 where
 abbrev pub stands_at : (step sector : ℕ) → ℕ
 stands_at step sector = if nat_lt sector 15 then step * sector % 15 else sector
 
--- FM and MFM (IBM 3740, System 34, Amiga trackdisk): rings of whole bytes of 16 cells, by kilobits a second and turns a minute.
-abbrev pub stated : List ℕ → (cylinders heads sectors bytes first kilobits_a_second turns image : ℕ) → StatedFormat
+-- FM and MFM (IBM 3740, System 34, Amiga trackdisk): rings of whole bytes of 16 cells, by
+-- kilobits a second and turns a minute.
+abbrev pub stated : List ℕ → (cylinders heads sectors bytes first kilobits_a_second turns image : ℕ)
+    → StatedFormat
 stated word cylinders heads sectors bytes first kilobits_a_second turns image = record {
   word = word;
   cylinders = cylinders;
@@ -43,11 +49,13 @@ stated word cylinders heads sectors bytes first kilobits_a_second turns image = 
   by_head = false;
   step = 1;
   zones =
-      record { first = 0; end = cylinders; sectors = sectors; speed = kilobits kilobits_a_second turns; behind = 0; part = 16; is_even = true } ∷ [];
+      record { first = 0; end = cylinders; sectors = sectors; speed = kilobits kilobits_a_second turns; behind = 0; part = 16; is_even = true }
+      ∷ [];
 }
 
--- Commodore 1541 and 1571: a clock of 16 MHz is divided by 13 to 16, and again by 4, so that a cell has as many quarters of a microsecond; 300
--- turns a minute. The gap behind each sector of a track has as many bytes, of 8 cells, so that a ring grows by a byte for all of them at once.
+-- Commodore 1541 and 1571: a clock of 16 MHz is divided by 13 to 16, and again by 4, so that a cell
+-- has as many quarters of a microsecond; 300 turns a minute. The gap behind each sector of a track
+-- has as many bytes, of 8 cells, so that a ring grows by a byte for all of them at once.
 abbrev pub commodore : (first end sectors quarters : ℕ) → StatedZone
 commodore first end sectors quarters = record {
   first = first;
@@ -59,7 +67,8 @@ commodore first end sectors quarters = record {
   is_even = true;
 }
 
--- The zones of tracks 1 to 17, 18 to 24, 25 to 30 and from 31 on; cylinder 0 is track 1. Of the 1571's disk the second head has all tracks from 36 on.
+-- The zones of tracks 1 to 17, 18 to 24, 25 to 30 and from 31 on; cylinder 0 is track 1. Of the
+-- 1571's disk the second head has all tracks from 36 on.
 abbrev pub commodore_disk : List ℕ → (cylinders heads image : ℕ) → StatedFormat
 commodore_disk word cylinders heads image = record {
   word = word;
@@ -70,7 +79,8 @@ commodore_disk word cylinders heads image = record {
   image = image;
   by_head = nat_eq heads 2;
   step = 1;
-  zones = commodore 0 17 21 13 ∷ commodore 17 24 19 14 ∷ commodore 24 30 18 15 ∷ commodore 30 cylinders 17 16 ∷ [];
+  zones = commodore 0 17 21 13 ∷ commodore 17 24 19 14 ∷ commodore 24 30 18 15
+      ∷ commodore 30 cylinders 17 16 ∷ [];
 }
 
 -- Commodore 8050 and 8250: a clock of 12 MHz is divided by 26, 28, 30 or 32, and gives a cell.
@@ -102,8 +112,9 @@ commodore_8050_disk word heads image = record {
       ∷ commodore_8050 64 77 23 32 ∷ [];
 }
 
--- Apple's Disk II: 250000 cells a second, 300 turns a minute; 16 sectors of 3104 cells, and self-syncs of ten cells.
--- Of the sectors by their physical numbers DOS 3.3 has logical ones seven apart, ProDOS half blocks eight apart.
+-- Apple's Disk II: 250000 cells a second, 300 turns a minute; 16 sectors of 3104 cells, and
+-- self-syncs of ten cells. Of the sectors by their physical numbers DOS 3.3 has logical ones seven
+-- apart, ProDOS half blocks eight apart.
 abbrev pub apple_disk : List ℕ → (step : ℕ) → StatedFormat
 apple_disk word step = record {
   word = word;
@@ -126,7 +137,8 @@ apple_disk word step = record {
       } ∷ [];
 }
 
--- The Macintosh's drives: so many cells in each of so many turns a minute; sectors of 5988 cells, and self-syncs of ten cells.
+-- The Macintosh's drives: so many cells in each of so many turns a minute; sectors of 5988
+-- cells, and self-syncs of ten cells.
 abbrev pub macintosh : (first end sectors cells_a_turn turns : ℕ) → StatedZone
 macintosh first end sectors cells_a_turn turns = record {
   first = first;
@@ -150,7 +162,8 @@ macintosh_disk word heads image = record {
   by_head = false;
   step = 1;
   zones =
-      macintosh 0 16 12 76950 394 ∷ macintosh 16 32 11 70695 429 ∷ macintosh 32 48 10 64234 472 ∷ macintosh 48 64 9 57749 525 ∷ macintosh 64 80 8 51389 590 ∷ [];
+      macintosh 0 16 12 76950 394 ∷ macintosh 16 32 11 70695 429 ∷ macintosh 32 48 10 64234 472
+      ∷ macintosh 48 64 9 57749 525 ∷ macintosh 64 80 8 51389 590 ∷ [];
 }
 
 -- Of the plain ones: cylinders, heads, sectors, bytes, first, kilobits, turns, image.

@@ -1,6 +1,8 @@
 ghost use Rattle.std.specs.Prelude.{◌≡◌, ℕ, ◌+◌, ◌/◌, ◌%◌, ◌<◌, ◌≤◌, get_or, length, sum_by, take, slice_get, Some};
 ghost use Rattle.sector_images.specs.Formats.{row, slot, track_order, zone};
-ghost use Rattle.sector_images.specs.Places.{IsTrack, IsSector, tracks, bytes_of, place_of, sector_in, sector_place, sectors_before as sectors_before_in, sectors_before_track as sectors_before_track_in};
+ghost use Rattle.sector_images.specs.Places.{IsTrack, IsSector, tracks, bytes_of, place_of, sector_in, sector_place};
+ghost use Rattle.sector_images.specs.Places.{sectors_before as sectors_before_in};
+ghost use Rattle.sector_images.specs.Places.{sectors_before_track as sectors_before_track_in};
 
 use crate::format::{Format, TrackOrder};
 use flux_base::TrackId;

@@ -120,8 +120,8 @@ fn numbers_are_formats(rt: HostRuntime) {
     assert_eq!(rt; Format::of_word(b"mfm-dd-82x2x13x512"), None);
 }
 
-/// Words of numbers, and the word that is printed of the format. Three disks of the PC have a name too; all other names are of disks with
-/// gaps of their own, which no word of numbers writes.
+/// Words of numbers, and the word that is printed of the format. Three disks of the PC have a name too; all other names
+/// are of disks with gaps of their own, which no word of numbers writes.
 const PRINTED: [(&str, &str); 9] = [
     ("mfm-dd-40x1x8x512", "ibm-160"),
     ("mfm-dd-40x1x9x512", "ibm-180"),
@@ -147,8 +147,8 @@ fn names_are_printed(rt: HostRuntime) {
     }
 }
 
-/// A track of a format by its number, its cylinder and head, its place in the image and its bytes, and its nominal cell in
-/// fine units and the cells of its ring.
+/// A track of a format by its number, its cylinder and head, its place in the image and its bytes, and its nominal cell
+/// in fine units and the cells of its ring.
 const TRACKS: [(Format, u32, (u8, u8), (u32, u32), (u32, u32)); 45] = [
     (Format::AmigaHd, 1, (0, 1), (11264, 11264), (24604, 200000)),
     (
@@ -302,7 +302,8 @@ fn sectors_have_their_places(rt: HostRuntime) {
     assert_eq!(rt; image_place(Format::C1571, track(17, 1), 0), 266240);
 }
 
-/// A disk by its numbers, the number of a track and of a sector there from 0, the sector's own number, and the place of its first byte.
+/// A disk by its numbers, the number of a track and of a sector there from 0, the sector's own number,
+/// and the place of its first byte.
 const NUMBERED_SECTORS: [(IbmDisk, u32, u8, u8, u32); 5] = [
     (IbmDisk::IBM_1200, 159, 14, 15, 1228288),
     (IbmDisk::CPC_DATA, 0, 1, 0xC2, 512),
