@@ -3,15 +3,9 @@ use Rattle.std.specs.Prelude.{ℕ, ◌+◌, ◌*◌, List}
 use Rattle.sector_images.specs.declared.format.Format.{Format}
 use Rattle.sector_report.specs.declared.naming.Naming.TheVariants.{ByCapture}
 use Rattle.flux_engine.specs.Plans.{EndsInPlan, IsPlanned, IsPlannedPart, PartOf, Planned, Streams, streams_in}
+pub use Rattle.flux_engine.specs.Plans.{set_plan}
 use Rattle.flux_engine.specs.Streams.{stream_at}
 use Rattle.flux_engine.specs.Tracks.{TrackPart, part_by}
-use Rattle.flux_engine.specs.declared.plan.Clocks.TheVariants.{FollowingAlone}
-use Rattle.flux_engine.specs.declared.plan.Plan.{Plan}
-use Rattle.flux_engine.specs.declared.plan.Rule.TheVariants.{Strict}
-
--- so many streams of each track, by the clock that follows the drive, and lines that name the capture
-abbrev pub set_plan : (count : ℕ) → Plan
-set_plan count = record { captures = count; rule = Strict; clocks = FollowingAlone; naming = ByCapture }
 
 -- the streams of an input: the captures of a track follow one another
 abbrev pub set_streams : (count : ℕ) → (x : List ℕ) → Streams

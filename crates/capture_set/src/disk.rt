@@ -7,11 +7,11 @@ ghost use Rattle.flux_engine.specs.Needed.{ReadsWhereOpen};
 ghost use Rattle.flux_engine.specs.Room.{fresh};
 ghost use Rattle.kryo_stream.specs.Reads.{reads_at};
 ghost use Rattle.capture_set.specs.Answers.{DecodesSet, IsWholeOrRefused, SaysOfSetInput, SetCause};
-ghost use Rattle.capture_set.specs.Sets.{EndsInCaptures, set_plan as plan_of_set};
+ghost use Rattle.capture_set.specs.Sets.{EndsInCaptures};
 
 use flux_base::{Sink, Source};
-use flux_engine::{Clocks, DiskRoom, Plan, PlanFault, Rule, decode_planned};
-use sector_report::{Naming, Totals};
+use flux_engine::{DiskRoom, PlanFault, decode_planned, set_plan};
+use sector_report::Totals;
 
 /// Decodes all tracks of a disk in order, each from so many streams that stand one after another, and then writes the total
 /// line to `notes`. Of each track one verdict for each sector is given over all its captures; its part of the image is
@@ -47,17 +47,4 @@ pub fn decode_set<S: Source, W: Sink, N: Sink>(
     ensures notes_later { N.faults notes.old ≤ N.faults notes.new }
 {
     decode_planned(set_plan(count), room, source, image, notes)
-}
-
-/// The plan of a set: so many streams of each track, by the clock that follows the drive, and lines that name the capture.
-pub fn set_plan(count: u32) -> Plan
-    requires { count ≤ 16 }
-    ensures { result ≡ plan_of_set count }
-{
-    Plan {
-        captures: count as u8,
-        rule: Rule::Strict,
-        clocks: Clocks::FollowingAlone,
-        naming: Naming::ByCapture,
-    }
 }

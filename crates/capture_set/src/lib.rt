@@ -7,5 +7,6 @@
 mod disk;
 mod laws;
 
-pub use disk::{decode_set, set_plan};
+pub use disk::decode_set;
+pub use flux_engine::set_plan;
 pub use laws::{good_is_right_in_sets, sets_are_one, sets_of_one_are_decoded};

@@ -3,14 +3,8 @@ use Rattle.std.specs.Prelude.{ℕ, List}
 use Rattle.sector_images.specs.declared.format.Format.{Format}
 use Rattle.sector_report.specs.declared.naming.Naming.TheVariants.{ByClock}
 use Rattle.flux_engine.specs.Plans.{IsPlanned, IsPlannedPart, PartOf, Planned, Streams, streams_in}
+pub use Rattle.flux_engine.specs.Plans.{rescuing}
 use Rattle.flux_engine.specs.Tracks.{TrackPart, part_by}
-use Rattle.flux_engine.specs.declared.plan.Clocks.TheVariants.{Both}
-use Rattle.flux_engine.specs.declared.plan.Plan.{Plan}
-use Rattle.flux_engine.specs.declared.plan.Rule.TheVariants.{Strict}
-
--- one stream of each track, by both clocks, and lines that name the clock
-abbrev pub rescuing : Plan
-rescuing = record { captures = 1; rule = Strict; clocks = Both; naming = ByClock }
 
 -- the streams of an input, one for each track
 abbrev pub track_streams : List ℕ → Streams

@@ -4,16 +4,15 @@ ghost use Rattle.flux_base.specs.World.{counts_at};
 ghost use Rattle.flux_engine.specs.Answers.{Stayed};
 ghost use Rattle.flux_engine.specs.Blamed.{plan_blame};
 ghost use Rattle.flux_engine.specs.Needed.{ReadsWhereOpen};
-ghost use Rattle.flux_engine.specs.Plans.{EndsInPlan};
+ghost use Rattle.flux_engine.specs.Plans.{EndsInPlan, rescuing};
 ghost use Rattle.flux_engine.specs.PlanAnswers.{IsFinished};
 ghost use Rattle.flux_engine.specs.Room.{fresh};
 ghost use Rattle.kryo_stream.specs.Reads.{reads_at};
 ghost use Rattle.disk_rescue.specs.Answers.{Rescues, SaysOfRescueInput};
-ghost use Rattle.disk_rescue.specs.Rescued.{rescuing};
 
 use flux_base::{Sink, Source};
-use flux_engine::{Clocks, DiskRoom, Plan, PlanFault, Rule, decode_planned};
-use sector_report::{Naming, Totals};
+use flux_engine::{DiskRoom, PlanFault, decode_planned, rescue_plan};
+use sector_report::Totals;
 
 /// Decodes all tracks of a disk in order by two clocks, and then writes the total line to `notes`. The stream of a track is
 /// read once. One verdict for each sector is given over its readings by clock 0 and then by clock 1; the track's part of the
@@ -42,16 +41,4 @@ pub fn rescue_disk<S: Source, W: Sink, N: Sink>(
     ensures complete { Stayed (S.faults source.old) (S.faults source.new) → Stayed (W.faults image.old) (W.faults image.new) → Stayed (N.faults notes.old) (N.faults notes.new) → IsFinished result }
 {
     decode_planned(rescue_plan(), room, source, image, notes)
-}
-
-/// The plan of a rescued disk: one stream of each track, by both clocks, and lines that name the clock.
-pub fn rescue_plan() -> Plan
-    ensures { result ≡ rescuing }
-{
-    Plan {
-        captures: 1,
-        rule: Rule::Strict,
-        clocks: Clocks::Both,
-        naming: Naming::ByClock,
-    }
 }

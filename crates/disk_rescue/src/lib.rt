@@ -8,5 +8,6 @@
 mod disk;
 mod laws;
 
-pub use disk::{rescue_disk, rescue_plan};
+pub use disk::rescue_disk;
+pub use flux_engine::rescue_plan;
 pub use laws::{good_stays, rescued_good_is_right, rescues_are_one};

@@ -10,11 +10,11 @@ ghost use Rattle.flux_engine.specs.Writing.{IsSum, sum_of};
 ghost use Rattle.kryo_stream.specs.Reads.{reads_at};
 
 use crate::fault::{EngineFault, PlanFault};
-use crate::plan::{Clocks, Plan, Rule};
+use crate::plan::decoding_plan;
 use crate::planned::decode_planned;
 use crate::room::DiskRoom;
 use flux_base::{Sink, Source};
-use sector_report::{Naming, Totals};
+use sector_report::Totals;
 
 /// Decodes all tracks of a disk in order, as `decode_track` does each, and then writes the total line to
 /// `notes`: it reads the disk by the plan of one stream of each track. No answer is for want of memory.
@@ -45,13 +45,7 @@ pub fn decode_disk<S: Source, W: Sink, N: Sink>(
     ensures image_later { W.faults image.old ≤ W.faults image.new }
     ensures notes_later { N.faults notes.old ≤ N.faults notes.new }
 {
-    let plan = Plan {
-        captures: 1,
-        rule: Rule::Strict,
-        clocks: Clocks::FollowingAlone,
-        naming: Naming::Unnamed,
-    };
-    let answer = decode_planned(plan, room, source, image, notes);
+    let answer = decode_planned(decoding_plan(), room, source, image, notes);
     engine_answer(answer)
 }
 

@@ -49,7 +49,7 @@ pub use laws::{
     parts_fill_images, parts_stay, plans_are_right, rules_are_read,
 };
 pub use names::{NamedStreams, count_names, take_names};
-pub use plan::{Clocks, Plan, Rule};
+pub use plan::{Clocks, Plan, Rule, decoding_plan, rescue_plan, set_plan};
 pub use planned::{decode_planned, decode_planned_tracks, decode_tracks};
 pub use ring_making::track_ring;
 pub use room::{DiskRoom, MOST_CELLS, format_book, lost_count};

@@ -1,6 +1,10 @@
+use Rattle.std.proofs.Common.{subst}
 use Rattle.kryo_stream.specs.Reads.{reads_at}
-use Rattle.flux_engine.specs.Needed.{EndsInStreams}
+use Rattle.flux_engine.specs.Needed.{EndsInStreams, ReadsWhereOpen}
+use Rattle.flux_engine.specs.PlanAnswers.{DecodesPlanned}
 use Rattle.flux_engine.specs.Plans.{EndsInPlan, decoding}
+use Rattle.flux_engine.specs.Tracks.{part_by}
+use Rattle.flux_engine.specs.declared.plan.Plan.{Plan}
 use Rattle.flux_engine.specs.lemmas.OneStream.{ends_in_streams, reads_weaken}
 use Rattle.flux_engine.proofs.BlamedSteps.{engine_blames, engine_cause}
 use Rattle.flux_engine.proofs.DecodedPlans.{decodes_disk}
@@ -12,7 +16,10 @@ returns-clause-decoded g c =
     rw c.engine_answer.ensures
     (decodes_disk c.args.room.now.format (g.S.Source.left c.args.source.now) (g.S.Source.left c.decode_planned-answer.new.source)
     (g.W.Sink.written c.args.image.now) (g.W.Sink.written c.decode_planned-answer.new.image) (g.N.Sink.written c.args.notes.now) (g.N.Sink.written c.decode_planned-answer.new.notes)
-    c.decode_planned-answer.result c.decode_planned-answer.ensures.decoded)
+    c.decode_planned-answer.result
+    (subst (λ (p : Plan). DecodesPlanned p (part_by p.naming) c.args.room.now.format (g.S.Source.left c.args.source.now) (g.S.Source.left c.decode_planned-answer.new.source)
+        (g.W.Sink.written c.args.image.now) (g.W.Sink.written c.decode_planned-answer.new.image) (g.N.Sink.written c.args.notes.now) (g.N.Sink.written c.decode_planned-answer.new.notes)
+        c.decode_planned-answer.result) c.decoding_plan.ensures c.decode_planned-answer.ensures.decoded))
 
 pub returns-clause-told : goal.returns-clause-told
 returns-clause-told g c = λ bytes told.
@@ -22,7 +29,9 @@ pub returns-clause-needed : goal.returns-clause-needed
 returns-clause-needed g c = λ bytes told.
     reads_weaken (EndsInPlan decoding c.args.room.now.format) (EndsInStreams c.args.room.now.format)
     (reads_at g.S.Source c.args.source.now) (reads_at g.S.Source c.decode_planned-answer.new.source)
-    (ends_in_streams c.args.room.now.format) (c.decode_planned-answer.ensures.needed bytes told)
+    (ends_in_streams c.args.room.now.format)
+    (subst (λ (p : Plan). ReadsWhereOpen (EndsInPlan p c.args.room.now.format) (reads_at g.S.Source c.args.source.now)
+        (reads_at g.S.Source c.decode_planned-answer.new.source)) c.decoding_plan.ensures (c.decode_planned-answer.ensures.needed bytes told))
 
 pub returns-clause-blames : goal.returns-clause-blames
 returns-clause-blames g c =
