@@ -1,24 +1,27 @@
 -- What captured disks come to that are read by a plan.
-use Rattle.std.specs.Prelude.{◌≡◌, ◌<◌, ◌≤◌, ◌⊎◌, ℕ, List, [], length, replicate, None}
+use Rattle.std.specs.Prelude.{◌≡◌, ◌<◌, ◌≤◌, ◌⊎◌, ℕ, List, [], drop, length, replicate, None}
+use Rattle.disk_recordings.specs.Members.{sector_at}
+use Rattle.law_decoded_rings.specs.Verdicts.{StandsInOnePiece}
 use Rattle.sector_images.specs.Formats.{row}
 use Rattle.sector_images.specs.Places.{tracks}
 use Rattle.sector_images.specs.declared.format.Format.{Format}
 use Rattle.sector_report.specs.declared.naming.Naming.{Naming}
 use Rattle.turn_merge.specs.Others.{NotedOther}
 use Rattle.turn_merge.specs.Readings.{verdict}
-use Rattle.turn_merge.specs.declared.clock.Clock.TheVariants.{Held}
+use Rattle.turn_merge.specs.declared.clock.Clock.TheVariants.{Following, Held}
 use Rattle.turn_merge.specs.declared.verdict.Place.{Place}
 use Rattle.turn_merge.specs.declared.verdict.Verdict.{Verdict}
 use Rattle.turn_merge.specs.declared.verdict.Verdict.TheVariants.{Good, Contradictory, Bad, Missing}
 use Rattle.flux_engine.specs.Captured.{IsUsed}
 use Rattle.flux_engine.specs.DiskLaws.{bytes_at}
+use Rattle.flux_engine.specs.PlanLaws.{cells_in}
 use Rattle.flux_engine.specs.Plans.{AreOthersTo, IsPlanned, Planned, joined, streams_in}
 use Rattle.flux_engine.specs.Recordings.{track_at}
 use Rattle.flux_engine.specs.Rings.{IsImage, sector_bytes}
 use Rattle.flux_engine.specs.Tracks.{part_by}
 use Rattle.flux_engine.specs.declared.plan.Plan.{Plan}
 use Rattle.law_captured_disks.specs.Headline.{IsBadOrMissing, IsSectorOf}
-use Rattle.law_captured_plans.specs.Inputs.{IsCapturedSet, IsErasedSet, IsSteadyErasedSet, IsSteadySet, LiesInACapture}
+use Rattle.law_captured_plans.specs.Inputs.{IsCapturedSet, IsErasedSet, IsSteadyErasedSet, IsSteadySet, LiesInACapture, pieces_of_capture}
 use Rattle.law_captured_plans.specs.Said.{IsSaid, SaysBy}
 
 -- The report has the sector's line, which says good, with these numbers of good and of bad readings over all that was read of its
@@ -76,6 +79,19 @@ ErasedPlansAreRead = (plan : Plan) (format : Format) (image x : List ℕ) (o : P
     → (set : IsErasedSet format plan.captures image x) → (IsUsed plan.clocks Held → IsSteadyErasedSet format plan.captures image x set)
     → IsPlanned plan (part_by plan.naming) format (streams_in plan x) o
     → IsReadInPart plan.naming format image o (LiesInACapture format plan.captures image x set)
+
+-- no place of a capture at which a sector stands whole, as at each good reading of the strict rule, has cells of two pieces
+abbrev pub StandInOnePiece : (plan : Plan) (format : Format) (image x : List ℕ) → IsErasedSet format plan.captures image x → Type 0
+StandInOnePiece plan format image x set =
+    (n q : ℕ) (known : n < length (tracks format)) (low : q < plan.captures) (sector place : ℕ) (bytes : List ℕ)
+    → sector_at format (track_at format n) (drop place (cells_in format (streams_in plan x) n q Following)) sector bytes
+    → StandsInOnePiece (λ cells. sector_at format (track_at format n) cells sector bytes)
+    (pieces_of_capture format plan.captures image x set n q known low) (cells_in format (streams_in plan x) n q Following) place
+
+-- So it is by the clock that follows the drive, wherever stretches are erased, and whatever speed the drives keep.
+abbrev pub ErasedPlansStandInOnePiece : Type 0
+ErasedPlansStandInOnePiece = (plan : Plan) (format : Format) (image x : List ℕ) → IsImage format image
+    → (set : IsErasedSet format plan.captures image x) → StandInOnePiece plan format image x set
 
 -- a sector's own bytes are held where its verdict is good, and zeros where it is contradictory; it is never bad or missing
 abbrev pub IsOwnOrContradictory : Format → (own held : List ℕ) → Verdict → Type 0

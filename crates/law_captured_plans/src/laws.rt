@@ -1,6 +1,6 @@
 //! What captured disks come to that are read by a plan.
 
-ghost use Rattle.law_captured_plans.specs.Headline.{CapturedPlansAreNeverWrong, CapturedPlansAreRead, CapturedPlansHaveNoOthers, ErasedPlansAreRead, ErasedPlansHaveNoOthers};
+ghost use Rattle.law_captured_plans.specs.Headline.{CapturedPlansAreNeverWrong, CapturedPlansAreRead, CapturedPlansHaveNoOthers, ErasedPlansAreRead, ErasedPlansHaveNoOthers, ErasedPlansStandInOnePiece};
 ghost use Rattle.law_captured_plans.specs.Said.{GoodLinesAreRight, InputsAreShort, LinesTellInPlans, PlannedReportsHaveNoOtherLines, SectorsAreSaid};
 
 use disk_recordings::{
@@ -61,10 +61,12 @@ pub fn planned_lines_tell()
 /// clock that is held the drives have to keep their speed; where they do not, a sector is good with its own bytes, or contradictory.
 ///
 /// So it is by either rule of a plan. Where stretches of any captures are erased, a sector of which one place lies whole between them
-/// in one capture is kept; every other one is kept or lost, and none is contradictory.
+/// in one capture is kept; every other one is kept or lost, and none is contradictory. And by the clock that follows the drive no sector
+/// stands whole over cells of two stretches.
 pub fn captured_plans_are_read()
     ensures whole { CapturedPlansAreRead }
     ensures erased { ErasedPlansAreRead }
+    ensures one_piece { ErasedPlansStandInOnePiece }
     ensures never_wrong { CapturedPlansAreNeverWrong }
 {
     planned_sectors_are_said();
