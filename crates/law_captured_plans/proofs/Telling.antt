@@ -1,5 +1,5 @@
 -- What the lines of a disk's report tell that was read by a plan.
-use Rattle.std.specs.Prelude.{◌≡◌, ◌≤◌, ◌<◌, ◌^◌, ℕ, suc, ◌+◌, ◌*◌, List, [], ◌∷◌, ◌++◌, get_or, length, unwrap_or, Option, refl}
+use Rattle.std.specs.Prelude.{◌≡◌, ◌≤◌, ◌<◌, ◌^◌, ℕ, suc, ◌+◌, ◌*◌, List, [], ◌∷◌, ◌++◌, drop, get_or, length, unwrap_or, Option, refl}
 use Rattle.std.proofs.Common.{ap, sym, subst, ◌∙◌, arith, length-append, lit<}
 use Rattle.flux_base.specs.declared.track.TrackId.{TrackId}
 use Rattle.disk_recordings.specs.Laws.{TracksAreRead}
@@ -20,6 +20,7 @@ use Rattle.turn_merge.specs.declared.verdict.Verdict.TheVariants.{Good}
 use Rattle.flux_engine.specs.Captured.{AreReadingsBy, IsUsed, joined_by}
 use Rattle.flux_engine.specs.DiskLaws.{HasLine, bytes_at, sectors_before, total_lines}
 use Rattle.flux_engine.specs.Disks.{last_line, lines, totals_over}
+use Rattle.flux_engine.specs.PlanLaws.{cells_in}
 use Rattle.flux_engine.specs.Plans.{IsPlanned, Planned, Streams, joined, planned_count}
 use Rattle.flux_engine.specs.Recordings.{track_at}
 use Rattle.flux_engine.specs.Streams.{stream_at}
@@ -173,6 +174,9 @@ module _ (laws : Laws) (plan : Plan) (format : Format) (streams : Streams) (o : 
           n = t.n;
           track_is = t.track_is;
           bytes = right.bytes;
+          size =
+              laws.sectors.rules.size plan.rule format (track_at format t.n)
+              (drop right.named.place (cells_in format streams t.n right.named.capture right.named.clock)) sector right.bytes right.named.stands;
           named = right.named;
           in_image = subst (λ (id : TrackId). bytes_at format o.image id sector ≡ right.bytes) (sym t.track_is) (t.said.held ∙ right.in_image);
           agreed = right.agreed;

@@ -2,6 +2,7 @@
 use Rattle.std.specs.Prelude.{◌≡◌, ◌≤◌, ◌<◌, ℕ, ◌+◌, List, length, None}
 use Rattle.flux_base.specs.declared.track.TrackId.{TrackId}
 use Rattle.kryo_stream.specs.Protocol.{LIMIT}
+use Rattle.sector_images.specs.Formats.{row}
 use Rattle.sector_images.specs.Places.{IsSector}
 use Rattle.sector_images.specs.declared.format.Format.{Format}
 use Rattle.sector_report.specs.LineLaws.{LineFits, line_ends}
@@ -80,13 +81,15 @@ LinesTellInPlans = (plan : Plan) (format : Format) (streams : Streams) (o : Plan
     → (track : TrackId) (sector : ℕ) (outcome : Verdict) (number : ℕ) → LineFits plan.naming track sector outcome
     → HasLine o.notes (named_text plan.naming track sector outcome) number → IsToldBy plan format streams o track sector outcome number
 
--- So, by the strict rule, a line that says good names a capture, a clock of the plan, a turn and a place whose cells hold the sector, with its sync, header,
--- data and check values; the image has these bytes at the sector's place; and each place of the track whose cells hold it, of any
--- capture and by any clock of the plan, holds the same bytes.
+-- So, by the strict rule, a line that says good names a capture, a clock of the plan, a turn and a
+-- place whose cells hold the sector, with its sync, header, data and check values, as many bytes as
+-- the format's sectors have; the image has these bytes at the sector's place; and each place of the
+-- track whose cells hold it, of any capture and by any clock of the plan, holds the same bytes.
 pub record IsToldRightly (plan : Plan) (format : Format) (streams : Streams) (o : Planned) (track : TrackId) (sector : ℕ) (first : Place) : Type 0 where
   pub n : ℕ
   pub track_is : track ≡ track_at format n
   pub bytes : List ℕ
+  pub size : length bytes ≡ (row format).sector_size
   pub named : IsNamedIn plan format streams n first sector bytes
   pub in_image : bytes_at format o.image track sector ≡ bytes
   pub agreed : (q : ℕ) (clock : Clock) (place : ℕ) (others : List ℕ) → q < plan.captures → IsUsed plan.clocks clock
