@@ -205,7 +205,7 @@ module _ (laws : Laws) (plan : Plan) (format : Format) (image x : List ℕ) (is 
       size : length o.image ≡ (row format).image_size
       size =
           ap (λ (d : Planned). length d.image) read.is
-          ∙ images_size (bytes_of format) (tracks format) read.parts many (part_size laws.sectors plan format streams o read)
+          ∙ images_size (bytes_of format) (tracks format) read.parts many (λ n low. part_size laws.sectors plan format streams n (part_at read.parts n) (read.each n low))
           ∙ laws.filled format
 
       good_with : (v : Verdict) (held : Option (List ℕ)) (bytes : List ℕ) → IsGoodWith v held bytes → is_good v ≡ true

@@ -3,7 +3,7 @@ use Rattle.std.specs.Prelude.{◌≡◌, ◌≤◌, ◌<◌, ℕ, ◌+◌, List,
 use Rattle.flux_base.specs.declared.track.TrackId.{TrackId}
 use Rattle.kryo_stream.specs.Protocol.{LIMIT}
 use Rattle.sector_images.specs.Formats.{row}
-use Rattle.sector_images.specs.Places.{IsSector}
+use Rattle.sector_images.specs.Places.{IsSector, tracks}
 use Rattle.sector_images.specs.declared.format.Format.{Format}
 use Rattle.sector_report.specs.LineLaws.{LineFits, line_ends}
 use Rattle.sector_report.specs.Lines.{named_text}
@@ -16,10 +16,11 @@ use Rattle.turn_merge.specs.declared.verdict.Verdict.{Verdict}
 use Rattle.turn_merge.specs.declared.verdict.Verdict.TheVariants.{Good}
 use Rattle.flux_engine.specs.Captured.{IsUsed}
 use Rattle.flux_engine.specs.DiskLaws.{HasLine, bytes_at, line_number, sectors_before, total_lines}
+use Rattle.flux_engine.specs.Disks.{images}
 use Rattle.flux_engine.specs.PlanLaws.{IsNamedIn, StandsIn}
-use Rattle.flux_engine.specs.Plans.{AreCaptures, IsPlanned, Planned, Streams, joined, planned_count, streams_in}
+use Rattle.flux_engine.specs.Plans.{AreCaptures, ArePlannedParts, IsPlanned, Planned, Streams, joined, planned_count, streams_in}
 use Rattle.flux_engine.specs.Recordings.{sectors_of, track_at}
-use Rattle.flux_engine.specs.Tracks.{image_bytes, part_by}
+use Rattle.flux_engine.specs.Tracks.{TrackPart, image_bytes, part_by}
 use Rattle.flux_engine.specs.declared.plan.Clocks.{Clocks}
 use Rattle.flux_engine.specs.declared.plan.Clocks.TheVariants.{FollowingAlone}
 use Rattle.flux_engine.specs.declared.plan.Plan.{Plan}
@@ -43,6 +44,12 @@ abbrev pub SectorsAreSaid : Type 0
 SectorsAreSaid = (plan : Plan) (format : Format) (streams : Streams) (o : Planned) → IsPlanned plan (part_by plan.naming) format streams o
     → (n sector : ℕ) → n < planned_count format o.stop → IsSector format (track_at format n) sector
     → IsSaid plan format streams o n sector
+
+-- the parts of any first tracks have no more bytes than the format's image
+abbrev pub PlannedPartsFitImages : Type 0
+PlannedPartsFitImages = (plan : Plan) (format : Format) (streams : Streams) (parts : List TrackPart)
+    → ArePlannedParts plan (part_by plan.naming) format streams parts → length parts ≤ length (tracks format)
+    → length (images parts) ≤ (row format).image_size
 
 -- the report has a line for each sector of the tracks that were read, and the total line; it has no other
 abbrev pub PlannedReportsHaveNoOtherLines : Type 0

@@ -1,7 +1,7 @@
 //! What captured disks come to that are read by a plan.
 
 ghost use Rattle.law_captured_plans.specs.Headline.{CapturedPlansAreNeverWrong, CapturedPlansAreRead, CapturedPlansHaveNoOthers, ErasedPlansAreRead, ErasedPlansHaveNoOthers, ErasedPlansStandInOnePiece};
-ghost use Rattle.law_captured_plans.specs.Said.{GoodLinesAreRight, InputsAreShort, LinesTellInPlans, PlannedReportsHaveNoOtherLines, SectorsAreSaid};
+ghost use Rattle.law_captured_plans.specs.Said.{GoodLinesAreRight, InputsAreShort, LinesTellInPlans, PlannedPartsFitImages, PlannedReportsHaveNoOtherLines, SectorsAreSaid};
 
 use disk_recordings::{
     DiskRecording, rewritten_tracks_have_only_own, tracks_are_read, tracks_have_only_own,
@@ -23,6 +23,18 @@ use sector_report::{sector_lines_tell, sectors_have_one_line, totals_have_one_li
 /// over all that was read of its track, and at its place in the image the bytes that its good readings hold, or zeros.
 pub fn planned_sectors_are_said()
     ensures { SectorsAreSaid }
+{
+    rules_are_read();
+    plans_are_right();
+    sectors_have_one_line();
+    sectors_lie_in_images();
+    sectors_fill_tracks();
+    tracks_fill_images()
+}
+
+/// The parts of any first tracks of such a disk have no more bytes than the format's image.
+pub fn planned_parts_fit_images()
+    ensures { PlannedPartsFitImages }
 {
     rules_are_read();
     plans_are_right();

@@ -7,5 +7,5 @@ mod laws;
 
 pub use laws::{
     captured_plans_are_read, captured_plans_have_no_others, planned_lines_tell,
-    planned_sectors_are_said,
+    planned_parts_fit_images, planned_sectors_are_said,
 };
