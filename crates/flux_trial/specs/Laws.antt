@@ -1,6 +1,6 @@
 -- What the trials of numbers without a hole come to.
 use Rattle.std.specs.Prelude.{◌≡◌, ◌<◌, ℕ, List, length, sum, sum_by}
-use Rattle.law_captured_disks.specs.Inputs.{IsCapturedDisk}
+use Rattle.law_captured_plans.specs.Inputs.{IsCapturedSet}
 use Rattle.flux_engine.specs.Captures.{Capture}
 use Rattle.flux_engine.specs.Rings.{nominal_of}
 use Rattle.sector_images.specs.Formats.{zone}
@@ -25,9 +25,10 @@ abbrev pub TrialsAreCaptures : Type 0
 TrialsAreCaptures = (format : Format) (seed k : ℕ) → HasNoHole seed → k < length (tracks format)
     → Capture (trial_stream format seed k) (trial_ring format seed k) (nominal_of format k)
 
--- so its streams are a captured disk of the trial's image
+-- so its streams capture the trial's image, each track once
 abbrev pub TrialsAreCapturedDisks : Type 0
-TrialsAreCapturedDisks = (format : Format) (seed : ℕ) → HasNoHole seed → IsCapturedDisk format (trial_image format seed) (trial_input format seed)
+TrialsAreCapturedDisks = (format : Format) (seed : ℕ) → HasNoHole seed
+    → IsCapturedSet format 1 (trial_image format seed) (trial_input format seed)
 
 -- the sectors of all tracks
 abbrev pub sectors_of_all : Format → ℕ

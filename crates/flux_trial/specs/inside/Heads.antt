@@ -1,5 +1,5 @@
 -- A drive's head that passes over a track's transitions, one after another.
-use Rattle.std.specs.Prelude.{◌≡◌, ◌≤◌, ◌<◌, ℕ, ◌+◌, ◌-◌, ◌*◌, ◌/◌, ◌%◌, All, Bool, cond, List, [], ◌∷◌, ◌++◌, length, nat_eq, take, drop}
+use Rattle.std.specs.Prelude.{◌≡◌, ◌≤◌, ◌<◌, ℕ, ◌+◌, ◌-◌, ◌*◌, ◌/◌, ◌%◌, All, Bool, cond, List, [], ◌∷◌, ◌++◌, length, nat_eq}
 use Rattle.std.specs.List.{list_any, range_with_len}
 use Rattle.track_rings.specs.Rings.{last_in}
 use Rattle.flux_trial.specs.Drive.{Drive, base, chance, displaced, drifted, ideal, most_drift, most_way, period}

@@ -1,6 +1,6 @@
 -- A drive that turns over a ring.
-use Rattle.std.specs.Prelude.{◌≡◌, ◌≤◌, ◌<◌, ℕ, zero, suc, ◌+◌, ◌-◌, ◌*◌, All, Bool, List, ◌++◌, drop, length, map, take}
-use Rattle.flux_writer.specs.Written.{ones_of, quarter, track_cells, track_turns}
+use Rattle.std.specs.Prelude.{◌≡◌, ◌≤◌, ◌<◌, ℕ, ◌+◌, ◌*◌, All, Bool, List, length, map, take}
+use Rattle.flux_writer.specs.Written.{ones_of, track_cells, track_turns}
 use Rattle.flux_trial.specs.Drive.{Drive, index_time}
 use Rattle.flux_trial.specs.Times.{times_seen}
 use Rattle.flux_trial.specs.declared.head.Head.{Head}
