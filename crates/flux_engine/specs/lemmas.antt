@@ -19,3 +19,4 @@ pub mod OneParts
 pub mod NoneAgreed
 pub mod Blamed
 pub mod TrackAt
+pub mod PlanStops
