@@ -1,10 +1,10 @@
 -- The inputs of which decoding and rescuing promise something are the stated ones, and there are no others.
 use Rattle.std.specs.Prelude.{◌≡◌, ◌<◌, ◌↔◌, ℕ, List, ◌∷◌, length, map}
-use Rattle.flux_engine.specs.Captures.{ErasedCapture}
+use Rattle.flux_engine.specs.Captures.{ErasedCapture, IsSteady, IsSteadyErased}
 use Rattle.flux_engine.specs.Rings.{nominal_of, ring_of}
 use Rattle.law_captured_disks.specs.Frames.{ring_piece, written_track}
+use Rattle.law_captured_disks.specs.Headline.{pieces_of}
 use Rattle.law_captured_disks.specs.Inputs.{AreJoined, IsCapturedDisk, IsErasedDisk}
-use Rattle.law_captured_rescues.specs.Headline.{IsSteadyDisk, IsSteadyErasedDisk, LiesWhole}
 use Rattle.law_decoded_rings.specs.Verdicts.{LiesInOnePiece}
 use Rattle.law_stated_captures.specs.Streams.{StatedErasedCapture}
 use Rattle.law_stated_disks.specs.Disks.{HasWholeSector, KeptItsSpeed, KeptItsSpeedErased, StatedDisk, StatedErasedDisk}
@@ -28,14 +28,20 @@ SectorsLieInPieces = (format : Format) (image x : List ℕ) (n sector : ℕ) (ca
 pub record IsSameDisk (format : Format) (image x : List ℕ) (stated : StatedDisk format image x) (disk : IsCapturedDisk format image x) : Type 0 where
   pub streams : disk.stream ≡ stated.stream
   pub periods : (k : ℕ) (known : k < length (tracks format)) → (stated.each k known).periods ≡ (disk.captured k known).periods
-  pub steady : KeptItsSpeed format image x stated ↔ IsSteadyDisk format image x disk
+  pub steady : KeptItsSpeed format image x stated
+      ↔ ((k : ℕ) (known : k < length (tracks format))
+      → IsSteady (disk.stream k) (ring_of format image k) (nominal_of format k) (disk.captured k known))
 
 -- the same of the same pieces, in which the same sectors lie whole
 pub record IsSameErasedDisk (format : Format) (image x : List ℕ) (stated : StatedErasedDisk format image x) (disk : IsErasedDisk format image x) : Type 0 where
   pub streams : disk.stream ≡ stated.stream
   pub pieces : (k : ℕ) (known : k < length (tracks format)) → (stated.each k known).pieces ≡ (disk.captured k known).first ∷ (disk.captured k known).later
-  pub steady : KeptItsSpeedErased format image x stated ↔ IsSteadyErasedDisk format image x disk
-  pub whole : (n sector : ℕ) → HasWholeSector format image x stated n sector ↔ LiesWhole format image x disk n sector
+  pub steady : KeptItsSpeedErased format image x stated
+      ↔ ((k : ℕ) (known : k < length (tracks format))
+      → IsSteadyErased (disk.stream k) (ring_of format image k) (nominal_of format k) (disk.captured k known))
+  pub whole : (n sector : ℕ) → HasWholeSector format image x stated n sector
+      ↔ ((known : n < length (tracks format))
+      × LiesInOnePiece (written_track format image n) (pieces_of format image x disk n known) sector)
 
 -- each stated disk is a captured one
 abbrev pub StatedDisksAreCaptured : Type 0

@@ -1,6 +1,8 @@
 -- The inputs of which decoding a set promises something are the stated ones, and there are no others.
 use Rattle.std.specs.Prelude.{◌≡◌, ◌↔◌, ℕ, List}
 use Rattle.law_captured_plans.specs.Inputs.{IsCapturedSet, IsErasedSet, IsSteadyErasedSet, IsSteadySet, LiesInACapture}
+use Rattle.law_stated_disks.specs.Disks.{StatedDisk, StatedErasedDisk}
+use Rattle.law_stated_disks.specs.Disks.{HasWholeSector as HasWholeSectorOnDisk, KeptItsSpeed as DiskKeptItsSpeed, KeptItsSpeedErased as DiskKeptItsSpeedErased}
 use Rattle.law_stated_sets.specs.Sets.{HasWholeSector, KeptItsSpeed, KeptItsSpeedErased, StatedErasedSet, StatedSet}
 use Rattle.sector_images.specs.declared.format.Format.{Format}
 
@@ -33,3 +35,27 @@ StatedErasedSetsAreErased = (format : Format) (count : ℕ) (image x : List ℕ)
 abbrev pub ErasedSetsAreStated : Type 0
 ErasedSetsAreStated = (format : Format) (count : ℕ) (image x : List ℕ) (set : IsErasedSet format count image x)
     → (stated : StatedErasedSet format count image x) × IsSameErasedSet format count image x stated set
+
+-- A set of one capture of each track is a disk of one stream of each, which keeps its speed alike.
+abbrev pub StatedDisksAreSets : Type 0
+StatedDisksAreSets = (format : Format) (image x : List ℕ) (disk : StatedDisk format image x)
+    → (set : StatedSet format 1 image x) × (set.stream ≡ disk.stream)
+    × (DiskKeptItsSpeed format image x disk ↔ KeptItsSpeed format 1 image x set)
+
+abbrev pub StatedSetsAreDisks : Type 0
+StatedSetsAreDisks = (format : Format) (image x : List ℕ) (set : StatedSet format 1 image x)
+    → (disk : StatedDisk format image x) × (set.stream ≡ disk.stream)
+    × (DiskKeptItsSpeed format image x disk ↔ KeptItsSpeed format 1 image x set)
+
+-- so it is with erased ones, on which the same sectors lie whole
+abbrev pub StatedErasedDisksAreSets : Type 0
+StatedErasedDisksAreSets = (format : Format) (image x : List ℕ) (disk : StatedErasedDisk format image x)
+    → (set : StatedErasedSet format 1 image x) × (set.stream ≡ disk.stream)
+    × (DiskKeptItsSpeedErased format image x disk ↔ KeptItsSpeedErased format 1 image x set)
+    × ((n sector : ℕ) → HasWholeSectorOnDisk format image x disk n sector ↔ HasWholeSector format 1 image x set n sector)
+
+abbrev pub StatedErasedSetsAreDisks : Type 0
+StatedErasedSetsAreDisks = (format : Format) (image x : List ℕ) (set : StatedErasedSet format 1 image x)
+    → (disk : StatedErasedDisk format image x) × (set.stream ≡ disk.stream)
+    × (DiskKeptItsSpeedErased format image x disk ↔ KeptItsSpeedErased format 1 image x set)
+    × ((n sector : ℕ) → HasWholeSectorOnDisk format image x disk n sector ↔ HasWholeSector format 1 image x set n sector)

@@ -1,6 +1,6 @@
 //! Sets of captures in plain numbers.
 
-ghost use Rattle.law_stated_sets.specs.Laws.{CapturedSetsAreStated, ErasedSetsAreStated, StatedErasedSetsAreErased, StatedSetsAreCaptured};
+ghost use Rattle.law_stated_sets.specs.Laws.{CapturedSetsAreStated, ErasedSetsAreStated, StatedDisksAreSets, StatedErasedDisksAreSets, StatedErasedSetsAreDisks, StatedErasedSetsAreErased, StatedSetsAreCaptured, StatedSetsAreDisks};
 ghost use Rattle.law_stated_sets.specs.Reached.{SetsReachBounds};
 
 use law_stated_captures::captures_are_as_stated;
@@ -24,6 +24,15 @@ pub fn sets_are_as_stated()
     sectors_lie_in_images();
     tracks_keep_bounds()
 }
+
+/// A disk of one stream of each track is a set of one capture of each, and such a set is a disk: so what is said of sets of one capture is
+/// said of disks, which reach each bound.
+pub fn disks_are_sets_of_one()
+    ensures disks { StatedDisksAreSets }
+    ensures no_other_sets { StatedSetsAreDisks }
+    ensures erased { StatedErasedDisksAreSets }
+    ensures no_other_erased { StatedErasedSetsAreDisks }
+{}
 
 /// For each image there are sets in which one capture of each track alone has sectors, as the second of two, and has them in a piece that is
 /// not its first one.

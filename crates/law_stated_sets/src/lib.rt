@@ -5,4 +5,4 @@
 
 mod laws;
 
-pub use laws::{sets_are_as_stated, sets_reach_each_bound};
+pub use laws::{disks_are_sets_of_one, sets_are_as_stated, sets_reach_each_bound};
