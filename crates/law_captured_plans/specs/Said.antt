@@ -88,23 +88,24 @@ LinesTellInPlans = (plan : Plan) (format : Format) (streams : Streams) (o : Plan
     → (track : TrackId) (sector : ℕ) (outcome : Verdict) (number : ℕ) → LineFits plan.naming track sector outcome
     → HasLine o.notes (named_text plan.naming track sector outcome) number → IsToldBy plan format streams o track sector outcome number
 
--- So, by the strict rule, a line that says good names a capture, a clock of the plan, a turn and a
--- place whose cells hold the sector, with its sync, header, data and check values, as many bytes as
--- the format's sectors have; the image has these bytes at the sector's place; and each place of the
--- track whose cells hold it, of any capture and by any clock of the plan, holds the same bytes.
-pub record IsToldRightly (plan : Plan) (format : Format) (streams : Streams) (o : Planned) (track : TrackId) (sector : ℕ) (first : Place) : Type 0 where
-  pub n : ℕ
-  pub track_is : track ≡ track_at format n
+-- A sector of track number n is rightly called good, and its first good reading is at this place: it
+-- is a place of a capture, by a clock of the plan, in its turn there, whose cells hold the sector, with
+-- its sync, header, data and check values, as many bytes as the format's sectors have; the image has
+-- these bytes at the sector's place; and each place of the track whose cells hold it, of any capture
+-- and by any clock of the plan, holds the same bytes.
+pub record IsRightlyGood (plan : Plan) (format : Format) (streams : Streams) (image : List ℕ) (n sector : ℕ) (first : Place) : Type 0 where
   pub bytes : List ℕ
   pub size : length bytes ≡ (row format).sector_size
   pub named : IsNamedIn plan format streams n first sector bytes
-  pub in_image : bytes_at format o.image track sector ≡ bytes
+  pub in_image : bytes_at format image (track_at format n) sector ≡ bytes
   pub agreed : (q : ℕ) (clock : Clock) (place : ℕ) (others : List ℕ) → q < plan.captures → IsUsed plan.clocks clock
       → StandsIn plan.rule format streams n q clock place sector others → others ≡ bytes
 
+-- So it is, by the strict rule, with each line that says good: its track is one of the format's.
 abbrev pub AreRightLines : Plan → Format → Streams → Planned → Type 0
 AreRightLines plan format streams o = (track : TrackId) (sector good bad : ℕ) (first : Place) (number : ℕ) → LineFits plan.naming track sector (Good good bad first)
-    → HasLine o.notes (named_text plan.naming track sector (Good good bad first)) number → IsToldRightly plan format streams o track sector first
+    → HasLine o.notes (named_text plan.naming track sector (Good good bad first)) number
+    → (n : ℕ) × (track ≡ track_at format n) × IsRightlyGood plan format streams o.image n sector first
 
 abbrev pub GoodLinesAreRight : Type 0
 GoodLinesAreRight = (plan : Plan) (format : Format) (streams : Streams) (o : Planned) → plan.captures ≤ 16 → plan.rule ≡ Strict → TellsSources plan.naming plan.captures plan.clocks
