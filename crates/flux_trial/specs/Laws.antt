@@ -20,7 +20,8 @@ HasNoHole seed = hole_cells seed ≡ 0
 abbrev pub SmallSeedsHaveNoHole : Type 0
 SmallSeedsHaveNoHole = (seed : ℕ) → seed < 1000 → HasNoHole seed
 
--- A drive without a hole keeps within the bounds of disturbance: the stream that it gives of a track captures the track's ring.
+-- A drive without a hole keeps within the bounds of disturbance: the stream that it gives of a
+-- track captures the track's ring.
 abbrev pub TrialsAreCaptures : Type 0
 TrialsAreCaptures = (format : Format) (seed k : ℕ) → HasNoHole seed → k < length (tracks format)
     → Capture (trial_stream format seed k) (trial_ring format seed k) (nominal_of format k)
@@ -36,9 +37,14 @@ sectors_of_all format = sum_by (λ track. (zone format track.cylinder).sectors) 
 
 -- the totals of a disk all of whose sectors are good
 abbrev pub all_good : Format → Totals
-all_good format = record { sectors = sectors_of_all format; good = sectors_of_all format; bad = 0; missing = 0; contradictory = 0 }
+all_good format =
+    record { sectors = sectors_of_all format; good = sectors_of_all format; bad = 0; missing = 0; contradictory = 0 }
 
--- The line of a trial without a hole is known beforehand: every sector is good, and the sum is that of the trial's image.
+-- The line of a trial without a hole is known beforehand: every sector is good, and the sum
+-- is that of the trial's image.
 abbrev pub WholeTrialsHaveOneLine : Type 0
-WholeTrialsHaveOneLine = (format : Format) (seed : ℕ) (line : List ℕ) → HasNoHole seed → IsTrialLine format seed line
-    → line ≡ trial_text format seed (length (tracks format)) (all_good format) (sum (trial_image format seed))
+WholeTrialsHaveOneLine =
+    (format : Format) (seed : ℕ) (line : List ℕ) → HasNoHole seed → IsTrialLine format seed line
+    → line
+    ≡ trial_text format seed (length (tracks format)) (all_good format)
+    (sum (trial_image format seed))

@@ -29,10 +29,14 @@ trial_stream format seed k =
 
 -- the streams of all tracks in order, one after another
 unfoldable pub trial_input : Format → (seed : ℕ) → List ℕ
-trial_input format seed = flat_map (trial_stream format seed) (range_with_len 0 (length (tracks format)))
+trial_input format seed =
+    flat_map (trial_stream format seed) (range_with_len 0 (length (tracks format)))
 
--- The line that a trial writes: the totals of what its streams decode to, and the sum of the bytes of the decoded image.
+-- The line that a trial writes: the totals of what its streams decode to, and the sum of
+-- the bytes of the decoded image.
 pub record IsTrialLine (format : Format) (seed : ℕ) (line : List ℕ) : Type 0 where
   pub decoded : Planned
-  pub is : IsPlanned decoding (part_by Unnamed) format (streams_in decoding (trial_input format seed)) decoded
-  pub line_is : line ≡ trial_text format seed (length (tracks format)) decoded.totals (sum decoded.image)
+  pub is : IsPlanned decoding (part_by Unnamed) format
+      (streams_in decoding (trial_input format seed)) decoded
+  pub line_is : line
+      ≡ trial_text format seed (length (tracks format)) decoded.totals (sum decoded.image)

@@ -12,8 +12,9 @@ use law_captured_plans::planned_parts_fit_images;
 use sector_images::{sectors_lie_in_images, track_count, tracks_keep_bounds};
 use sector_report::{trial_line, write_line};
 
-/// Runs the trial of a number: makes its image and for each track the stream of its drive, decodes these, and writes the line with
-/// the totals and the sum of the decoded image's bytes. No answer is for want of memory, and a room serves once.
+/// Runs the trial of a number: makes its image and for each track the stream of its drive, decodes these,
+/// and writes the line with the totals and the sum of the decoded image's bytes. No answer is for want of
+/// memory, and a room serves once.
 ///
 /// `Failed` comes only where the sink's count of faults rose. Then a shorter part of the line was written.
 pub fn run_trial<W: Sink>(room: &mut TrialRoom, seed: u32, sink: &mut W) -> Result<(), Failed>

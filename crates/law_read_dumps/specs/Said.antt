@@ -3,7 +3,8 @@ use Rattle.std.specs.Prelude.{◌≡◌, ◌<◌, ℕ, List, length, Option, Som
 use Rattle.disk_recordings.specs.Members.{header_at, sector_at}
 use Rattle.dump_reading.specs.Beside.{LinesOf, beside_at, captures_at}
 use Rattle.dump_reading.specs.DumpStreams.{FailedAlike, IsOrFailed, path_in, seen_of}
-use Rattle.dump_reading.specs.Outcomes.{DumpDisk, DumpsRead, IsDumpsRead, IsReadBy, LookedBeside, plan_of}
+use Rattle.dump_reading.specs.Outcomes.{DumpDisk, DumpsRead, IsDumpsRead, IsReadBy, LookedBeside}
+use Rattle.dump_reading.specs.Outcomes.{plan_of}
 use Rattle.dump_reading.specs.declared.totals.DumpTotals.{DumpTotals}
 use Rattle.flux_base.specs.declared.track.TrackId.{TrackId}
 use Rattle.flux_engine.specs.Captured.{IsUsed}
@@ -27,76 +28,103 @@ use Rattle.turn_merge.specs.declared.verdict.Verdict.{Verdict}
 use Rattle.turn_merge.specs.declared.verdict.Verdict.TheVariants.{Contradictory, Good}
 
 -- the streams of the disk that came
-abbrev pub came_in : {of : PartOf} {beside_of : LinesOf} {whole : List TrackPart → List ℕ → DumpTotals → DumpsRead} {disk : DumpDisk} {told : Option (List File)} {o : DumpsRead}
+abbrev pub came_in : {of : PartOf} {beside_of : LinesOf}
+    {whole : List TrackPart → List ℕ → DumpTotals → DumpsRead} {disk : DumpDisk}
+    {told : Option (List File)} {o : DumpsRead}
     → IsReadBy of beside_of whole disk told o → Streams
 came_in {of} {beside_of} {whole} {disk} is = streams_over (plan_of disk) is.streams
 
 -- what the file of a track says in the dump of this number
 abbrev pub says_in : DumpDisk → List File → TrackId → (dump : ℕ) → Seen
-says_in disk files track dump = seen_of (file_at files (path_in disk.stepping disk.dumps track dump))
+says_in disk files track dump =
+    seen_of (file_at files (path_in disk.stepping disk.dumps track dump))
 
 abbrev pub says_on : DumpDisk → List File → (n dump : ℕ) → Seen
 says_on disk files n dump = says_in disk files (track_at disk.format n) dump
 
 -- each stream that came is what its file says, or the file failed, and the stream is passed over
 abbrev pub AreOfFiles : DumpDisk → Streams → List File → Type 0
-AreOfFiles disk came files = (n dump : ℕ) → n < length (tracks disk.format) → dump < length disk.dumps → IsOrFailed (came n dump) (says_on disk files n dump)
+AreOfFiles disk came files = (n dump : ℕ) → n < length (tracks disk.format)
+    → dump < length disk.dumps → IsOrFailed (came n dump) (says_on disk files n dump)
 
 abbrev pub StreamsAreOfFiles : Type 0
-StreamsAreOfFiles = (disk : DumpDisk) (files : List File) (o : DumpsRead) (is : IsDumpsRead disk (Some files) o) → AreOfFiles disk (came_in is) files
+StreamsAreOfFiles =
+    (disk : DumpDisk) (files : List File) (o : DumpsRead) (is : IsDumpsRead disk (Some files) o)
+    → AreOfFiles disk (came_in is) files
 
 -- so is each that came of a track beside the format's which was looked at
-abbrev pub AreBesideOfFiles : {disk : DumpDisk} {told : Option (List File)} → LookedBeside disk told → List File → Type 0
-AreBesideOfFiles {disk} beside files = (number dump : ℕ) → number < length beside.others → dump < length disk.dumps
-    → IsOrFailed (captures_at (length disk.dumps) beside.came number dump) (says_in disk files (beside_at disk.stepping disk.format number) dump)
+abbrev pub AreBesideOfFiles : {disk : DumpDisk} {told : Option (List File)} → LookedBeside disk told
+    → List File → Type 0
+AreBesideOfFiles {disk} beside files =
+    (number dump : ℕ) → number < length beside.others → dump < length disk.dumps
+    → IsOrFailed (captures_at (length disk.dumps) beside.came number dump)
+    (says_in disk files (beside_at disk.stepping disk.format number) dump)
 
 abbrev pub BesideStreamsAreOfFiles : Type 0
-BesideStreamsAreOfFiles = (disk : DumpDisk) (files : List File) (o : DumpsRead) (is : IsDumpsRead disk (Some files) o) → AreBesideOfFiles is.beside files
+BesideStreamsAreOfFiles =
+    (disk : DumpDisk) (files : List File) (o : DumpsRead) (is : IsDumpsRead disk (Some files) o)
+    → AreBesideOfFiles is.beside files
 
 -- the files, and which of them failed, decide what the dumps come to
 abbrev pub DumpsAreOne : Type 0
-DumpsAreOne = (disk : DumpDisk) (files : List File) (a b : DumpsRead) (p : IsDumpsRead disk (Some files) a) (q : IsDumpsRead disk (Some files) b)
+DumpsAreOne = (disk : DumpDisk) (files : List File) (a b : DumpsRead)
+    (p : IsDumpsRead disk (Some files) a) (q : IsDumpsRead disk (Some files) b)
     → FailedAlike p.streams q.streams → FailedAlike p.beside.came q.beside.came → a ≡ b
 
 -- the same whatever becomes of each track and of all
 abbrev pub AllOfDumpsIsOne : Type 0
-AllOfDumpsIsOne = (of : PartOf) (beside_of : LinesOf) (whole : List TrackPart → List ℕ → DumpTotals → DumpsRead) (disk : DumpDisk) (files : List File) (a b : DumpsRead)
-    (p : IsReadBy of beside_of whole disk (Some files) a) (q : IsReadBy of beside_of whole disk (Some files) b)
+AllOfDumpsIsOne =
+    (of : PartOf) (beside_of : LinesOf) (whole : List TrackPart → List ℕ → DumpTotals → DumpsRead)
+    (disk : DumpDisk) (files : List File) (a b : DumpsRead)
+    (p : IsReadBy of beside_of whole disk (Some files) a)
+    (q : IsReadBy of beside_of whole disk (Some files) b)
     → FailedAlike p.streams q.streams
     → FailedAlike p.beside.came q.beside.came → a ≡ b
 
--- The report has the sector's line, with the verdict over all readings of its track, of all dumps and by both clocks. At its place in
--- the image stand the bytes that all good readings hold, where no two differ, and else zeros.
+-- The report has the sector's line, with the verdict over all readings of its track, of all dumps
+-- and by both clocks. At its place in the image stand the bytes that all good readings hold, where
+-- no two differ, and else zeros.
 pub record IsSaid (disk : DumpDisk) (came : Streams) (o : DumpsRead) (n sector : ℕ) : Type 0 where
   pub captures : List (List NotedReading)
   pub many : length captures ≡ length disk.dumps
   pub each : AreCaptures (plan_of disk) disk.format came n captures
   pub number : ℕ
-  pub line : HasLine o.notes (named_text ByCaptureAndClock (track_at disk.format n) sector (verdict (joined captures) sector)) number
-  pub held : bytes_at disk.format o.image (track_at disk.format n) sector ≡ image_bytes (sectors_of disk.format (track_at disk.format n)) (joined captures) sector
+  pub line : HasLine o.notes
+      (named_text ByCaptureAndClock (track_at disk.format n) sector
+      (verdict (joined captures) sector)) number
+  pub held : bytes_at disk.format o.image (track_at disk.format n) sector
+      ≡ image_bytes (sectors_of disk.format (track_at disk.format n)) (joined captures) sector
 
 -- so it is with each sector of the disk
 abbrev pub EachIsSaid : Type 0
-EachIsSaid = (disk : DumpDisk) (told : Option (List File)) (o : DumpsRead) (is : IsDumpsRead disk told o)
+EachIsSaid =
+    (disk : DumpDisk) (told : Option (List File)) (o : DumpsRead) (is : IsDumpsRead disk told o)
     → (n sector : ℕ) → IsSectorOf disk.format n sector → IsSaid disk (came_in is) o n sector
 
--- what the sector's line says is right: where it says good, of the dump, the clock and the place that it names; and where it says contradictory, both places that it names hold the sector, with
--- other bytes
-abbrev pub IsSaidRightly : (disk : DumpDisk) (came : Streams) (o : DumpsRead) (n sector : ℕ) → Verdict → Type 0
-IsSaidRightly disk came o n sector (Good good bad first) = IsRightlyGood (plan_of disk) disk.format came o.image n sector first
+-- what the sector's line says is right: where it says good, of the dump, the clock and
+-- the place that it names; and where it says contradictory, both places that it names
+-- hold the sector, with other bytes
+abbrev pub IsSaidRightly : (disk : DumpDisk) (came : Streams) (o : DumpsRead) (n sector : ℕ)
+    → Verdict → Type 0
+IsSaidRightly disk came o n sector (Good good bad first) =
+    IsRightlyGood (plan_of disk) disk.format came o.image n sector first
 IsSaidRightly disk came o n sector (Contradictory good bad first other) =
     IsRightlyContradictoryIn (plan_of disk) disk.format came n sector first other
 IsSaidRightly disk came o n sector _ = Unit {0}
 
 abbrev pub SaidIsRight : Type 0
-SaidIsRight = (disk : DumpDisk) (came : Streams) (o : DumpsRead) (n sector : ℕ) (said : IsSaid disk came o n sector)
+SaidIsRight = (disk : DumpDisk) (came : Streams) (o : DumpsRead) (n sector : ℕ)
+    (said : IsSaid disk came o n sector)
     → IsSaidRightly disk came o n sector (verdict (joined said.captures) sector)
 
--- What is good by the strict rule over what one clock reads of one dump, as `decode` reads by the first clock, is good over all that is
--- read of the dumps, with the same bytes, or contradictory.
-abbrev pub StaysOrIsContradicted : (disk : DumpDisk) (came : Streams) (o : DumpsRead) (n sector : ℕ) → IsSaid disk came o n sector → Type 0
-StaysOrIsContradicted disk came o n sector said = (q : ℕ) → q < length disk.dumps → (clock : Clock) → IsUsed (plan_of disk).clocks clock → (found : List Found)
-    → AreReadings (header_at disk.format (track_at disk.format n)) (sector_at disk.format (track_at disk.format n))
+-- What is good by the strict rule over what one clock reads of one dump, as `decode` reads by the
+-- first clock, is good over all that is read of the dumps, with the same bytes, or contradictory.
+abbrev pub StaysOrIsContradicted : (disk : DumpDisk) (came : Streams) (o : DumpsRead) (n sector : ℕ)
+    → IsSaid disk came o n sector → Type 0
+StaysOrIsContradicted disk came o n sector said = (q : ℕ) → q < length disk.dumps → (clock : Clock)
+    → IsUsed (plan_of disk).clocks clock → (found : List Found)
+    → AreReadings (header_at disk.format (track_at disk.format n))
+    (sector_at disk.format (track_at disk.format n))
     (cells_in disk.format came n q clock) 0 found
     → let strict = readings_in q clock (came n q).times (came n q).indexes
     (cells_in disk.format came n q clock) found in
@@ -105,5 +133,6 @@ StaysOrIsContradicted disk came o n sector said = (q : ℕ) → q < length disk.
 
 -- so it is with each sector, whatever the files are
 abbrev pub GoodStaysOrIsContradicted : Type 0
-GoodStaysOrIsContradicted = (disk : DumpDisk) (came : Streams) (o : DumpsRead) (n sector : ℕ) (said : IsSaid disk came o n sector)
+GoodStaysOrIsContradicted = (disk : DumpDisk) (came : Streams) (o : DumpsRead) (n sector : ℕ)
+    (said : IsSaid disk came o n sector)
     → StaysOrIsContradicted disk came o n sector said

@@ -1,6 +1,6 @@
-//! What dumps come to that are read together: one outcome; for each sector a line and bytes that its readings bear out; of the
-//! report where each sector's line stands, and what each line is; and where they are complete. Definitions and laws, for all formats;
-//! nothing here is called for what it does.
+//! What dumps come to that are read together: one outcome; for each sector a line and bytes that its readings bear out;
+//! of the report where each sector's line stands, and what each line is; and where they are complete. Definitions and
+//! laws, for all formats; nothing here is called for what it does.
 #![tactic(auto)]
 
 mod laws;

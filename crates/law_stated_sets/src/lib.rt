@@ -1,6 +1,6 @@
-//! The inputs of which decoding a set promises something, spelled a second time: so many captures of each track, by their numbers in one
-//! input, any of which may be the one that has a sector whole. There are no others. Definitions and laws; nothing here is called for what it
-//! does.
+//! The inputs of which decoding a set promises something, spelled a second time: so many captures of each track, by
+//! their numbers in one input, any of which may be the one that has a sector whole. There are no others. Definitions
+//! and laws; nothing here is called for what it does.
 #![tactic(auto)]
 
 mod laws;
