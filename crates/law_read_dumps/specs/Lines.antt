@@ -54,7 +54,8 @@ lines_on disk came others n =
 -- track's streams that are passed over, and those of the track's sectors of smaller numbers
 abbrev pub line_number : DumpDisk → Streams → (others : List (List NotedOther)) → (n sector : ℕ) → ℕ
 line_number disk came others n sector =
-    sum_by (lines_on disk came others) (range_with_len 0 n) + passed_on disk came n + (sector - (row disk.format).first_sector)
+    sum_by (lines_on disk came others) (range_with_len 0 n) + passed_on disk came n
+    + (sector - (row disk.format).first_sector)
 
 -- the report has each sector's line at its number, with the verdict over all readings of its track
 abbrev pub HaveTheirNumbers : DumpDisk → Streams → DumpsRead → (others : List (List NotedOther))
@@ -81,7 +82,12 @@ pub record LookedAt : Type 0 where
 -- those of the format
 abbrev pub of_format : DumpDisk → Streams → (others : List (List NotedOther)) → LookedAt
 of_format disk came others =
-    record { track_of = track_at disk.format; many = length (tracks disk.format); passed = λ n dump. (came n dump).passed; others = others }
+    record {
+      track_of = track_at disk.format;
+      many = length (tracks disk.format);
+      passed = λ n dump. (came n dump).passed;
+      others = others;
+    }
 
 -- and those beside it that were looked at, of which a missing file is not told
 abbrev pub told_of : Option Passed → Option Passed
