@@ -132,7 +132,7 @@ module _ (laws : Laws) (disk : DumpDisk) (came : Streams) (files : List File) (o
 
       well_by : (v : Verdict) → verdict (joined said.captures) sector ≡ v → IsSaidRightly disk came o n sector v → IsReadWell disk came image o n sector
       well_by (Good g b first) same right =
-          record { said = said; good = g; bad = b; first = first; is = same; own = good_is_own first right }
+          record { good = record { said = said; good = g; bad = b; first = first; is = same }; own = good_is_own first right }
       well_by (Contradictory g b first other) same right =
           let a = right.named in
           let c = right.contradicted in

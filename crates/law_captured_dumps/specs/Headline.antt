@@ -9,9 +9,8 @@ use Rattle.law_captured_disks.specs.Headline.{IsSectorOf}
 use Rattle.law_captured_plans.specs.Headline.{IsOwnOrContradictory}
 use Rattle.track_shelf.specs.Files.{File}
 use Rattle.turn_merge.specs.Readings.{verdict}
-use Rattle.turn_merge.specs.declared.verdict.Place.{Place}
-use Rattle.turn_merge.specs.declared.verdict.Verdict.TheVariants.{Good}
 use Rattle.law_captured_dumps.specs.Inputs.{HasFailed, HasWhole, IsSteadyOrPassed}
+use Rattle.law_read_dumps.specs.Complete.{IsSaidGood}
 use Rattle.law_read_dumps.specs.Said.{IsSaid, came_in}
 
 -- a sector of track number n, in the report and in the image, is good with
@@ -37,11 +36,7 @@ CapturedDumpsAreNeverWrong = (disk : DumpDisk) (files : List File) (image : List
 -- a sector of track number n is good, with its own bytes
 pub record IsReadWell (disk : DumpDisk) (came : Streams) (image : List ℕ) (o : DumpsRead)
     (n sector : ℕ) : Type 0 where
-  pub said : IsSaid disk came o n sector
-  pub good : ℕ
-  pub bad : ℕ
-  pub first : Place
-  pub is : verdict (joined said.captures) sector ≡ Good good bad first
+  pub good : IsSaidGood disk came o n sector
   pub own : bytes_at disk.format o.image (track_at disk.format n) sector
       ≡ sector_bytes disk.format (track_at disk.format n) image sector
 
