@@ -1,7 +1,7 @@
 -- From what the loop over dumps wrote to the picture of a disk.
-use Rattle.std.specs.Prelude.{◌≡◌, ℕ, ◌+◌, List, [], ◌∷◌, ◌++◌, codes, length, take, Option, Err, refl}
+use Rattle.std.specs.Prelude.{◌≡◌, ℕ, ◌+◌, List, [], ◌∷◌, ◌++◌, codes, length, Option, Err, refl}
 use Rattle.std.specs.Io.KnownBytes.{Appends}
-use Rattle.std.proofs.Common.{ap, sym, subst, ◌∙◌, arith, inl, inr, append_assoc, append-nil}
+use Rattle.std.proofs.Common.{sym, subst, ◌∙◌, arith, inl, inr, append-nil}
 use Rattle.std.proofs.KnownBytes.{Appends-trans}
 use Rattle.std.proofs.lemmas.List.{length_push}
 use Rattle.flux_base.specs.Outside.{AppendsPart}
@@ -10,7 +10,6 @@ use Rattle.flux_base.specs.Blames.{CountsBy, no_counts, three_counts}
 use Rattle.flux_base.specs.Counts.{FaultCounts}
 use Rattle.flux_engine.specs.Disks.{images}
 use Rattle.flux_engine.specs.Tracks.{TrackPart}
-use Rattle.flux_engine.specs.lemmas.PartLaws.{images-more}
 use Rattle.dump_reading.specs.Blamed.{dumps_blame}
 use Rattle.dump_reading.specs.Beside.{no_lines}
 use Rattle.dump_reading.specs.DumpStreams.{of_disk}
@@ -23,7 +22,7 @@ use Rattle.dump_reading.specs.lemmas.Coming.{none_came}
 use Rattle.disk_map.specs.Dumps.{DrewDumps, SaysOfDrawing, StoppedInDumps, dumps_foot, dumps_front, dumps_part, picture_of}
 use Rattle.disk_map.specs.Places.{layout_of}
 use Rattle.disk_map.specs.Texts.{top_by}
-use Rattle.disk_map.proofs.Drawing.{cut_after}
+use Rattle.disk_map.proofs.Drawing.{cut_track}
 
 module _ (disk : DumpDisk) (start : ShelfNow) (picture : Option (List ℕ)) where
   -- the sink failed before the first field
@@ -85,15 +84,7 @@ module _ (disk : DumpDisk) (start : ShelfNow) (picture : Option (List ℕ)) wher
     -- the sink failed at a field
     cut-field : (written notes notes' : Option (List ℕ)) → WroteIntoImageBy dumps_part disk start now top written notes notes' → StoppedInDumps disk start now picture written
     cut-field written notes notes' w =
-        let before : List ℕ = top_by (codes "read") disk.format in
         let many : length (w.parts ++ w.next ∷ []) ≡ length w.parts + 1 = length_push w.parts w.next in
-        let n = w.image_grew.0 in
-        let whole : (before ++ images w.parts) ++ w.next.image ≡ dumps_front disk.format (w.parts ++ w.next ∷ []) ++ [] =
-        append_assoc before (images w.parts) w.next.image ∙ ap (λ (r : List ℕ). before ++ r) (sym (images-more w.parts w.next))
-        ∙ sym (append-nil (dumps_front disk.format (w.parts ++ w.next ∷ []))) in
-        let grew : Appends picture written ((before ++ images w.parts) ++ take n w.next.image) =
-        subst (Appends picture written) (sym (append_assoc before (images w.parts) (take n w.next.image)))
-        (Appends-trans picture top written before (images w.parts ++ take n w.next.image) begun w.image_grew.2) in
         record {
           streams = w.streams;
           parts = w.parts ++ w.next ∷ [];
@@ -103,7 +94,7 @@ module _ (disk : DumpDisk) (start : ShelfNow) (picture : Option (List ℕ)) wher
           ending = [];
           ends = inl (refl, refl);
           shelf = w.shelf;
-          grew = subst (AppendsPart picture written) whole (cut_after picture written (before ++ images w.parts) w.next.image n w.image_grew.1 grew);
+          grew = cut_track picture top written (top_by (codes "read") disk.format) w.parts w.next w.image_grew.0 w.image_grew.1 begun w.image_grew.2;
         }
 
     -- reading the tracks stopped; there are no notes that could have failed

@@ -1,9 +1,8 @@
 pub mod Drawing
-pub mod Drawn
 pub mod Telling
 pub mod Joined
+pub mod Shown
 pub mod Reports
-pub mod Outcomes
 pub mod Fields
 pub mod DrawnDumps
 pub mod DumpReports

@@ -11,8 +11,7 @@ use Rattle.track_shelf.specs.Files.{File}
 use Rattle.turn_merge.specs.Others.{NotedOther}
 use Rattle.flux_engine.specs.Disks.{images, part_at, totals_over}
 use Rattle.flux_engine.specs.Plans.{PartOf, Seen}
-use Rattle.flux_engine.specs.Recordings.{track_at}
-use Rattle.flux_engine.specs.Tracks.{TrackNotes, TrackPart}
+use Rattle.flux_engine.specs.Tracks.{TrackPart}
 use Rattle.dump_reading.specs.Beside.{no_lines}
 use Rattle.dump_reading.specs.Files.{ShelfNow}
 use Rattle.dump_reading.specs.Outcomes.{AreAllBy, AreTracksBy, DumpDisk, DumpsRead, FilesFailed, IsDumpsRead, IsReadBy, IsToldEmpty, LookedAsAsked, LookedBeside, numbers_of}
@@ -20,7 +19,7 @@ use Rattle.dump_reading.specs.Reports.{read_part}
 use Rattle.dump_reading.specs.declared.fault.DumpsFault.{DumpsFault}
 use Rattle.dump_reading.specs.declared.fault.DumpsFault.TheVariants.{NoFiles, ImageFault, NotesFault}
 use Rattle.dump_reading.specs.declared.totals.DumpTotals.{DumpTotals}
-use Rattle.disk_map.specs.Maps.{drawn_by}
+use Rattle.disk_map.specs.Maps.{ShowsTrack, drawn_by}
 use Rattle.disk_map.specs.Places.{layout_of}
 use Rattle.disk_map.specs.Texts.{counts_text, foot_text, top_by}
 use Rattle.disk_map.specs.declared.layout.Layout.{Layout}
@@ -87,12 +86,6 @@ SaysOfDrawing disk start now picture picture' (Err (NoFiles dump)) =
 SaysOfDrawing disk start now picture picture' (Err ImageFault) = StoppedInDumps disk start now picture picture'
 SaysOfDrawing disk start now picture picture' (Err NotesFault) = ⊥
 
--- a track in a picture and in the report, by what was gathered of it
-pub record ShowsTrack (format : Format) (n : ℕ) (drawn read : TrackPart) : Type 0 where
-  pub notes : TrackNotes
-  pub drawn_is : drawn ≡ dumps_part format (track_at format n) notes
-  pub read_is : read ≡ read_part format (track_at format n) notes
-
 -- A picture is that of a report: the report of the same streams has the same numbers, and of each track the picture has the fields by what was
 -- gathered of it, of which the report has the lines.
 pub record ShowsReport (disk : DumpDisk) (told : Option (List File)) (o : DumpsRead) (is : IsDumpsDrawn disk told o) : Type 0 where
@@ -101,7 +94,8 @@ pub record ShowsReport (disk : DumpDisk) (told : Option (List File)) (o : DumpsR
   pub streams : read.streams ≡ is.streams
   pub beside : read.beside.came ≡ is.beside.came
   pub totals : report.totals ≡ o.totals
-  pub tracks : (n : ℕ) → n < length is.parts → ShowsTrack disk.format n (part_at is.parts n) (part_at read.parts n)
+  pub tracks : (n : ℕ) → n < length is.parts
+      → ShowsTrack dumps_part read_part disk.format n (part_at is.parts n) (part_at read.parts n)
 
 abbrev pub PicturesOfDumpsShowReports : Type 0
 PicturesOfDumpsShowReports = (disk : DumpDisk) (told : Option (List File)) (o : DumpsRead) (is : IsDumpsDrawn disk told o) → ShowsReport disk told o is

@@ -1,22 +1,20 @@
 -- What a picture tells.
-use Rattle.std.specs.Prelude.{◌≡◌, ◌<◌, ℕ, ◌+◌, List, ◌++◌, codes, flat_map}
+use Rattle.std.specs.Prelude.{◌≡◌, ◌<◌, ℕ, ◌+◌, List, ◌++◌, codes, flat_map, length}
 use Rattle.std.specs.List.{range_with_len}
 use Rattle.flux_base.specs.declared.track.TrackId.{TrackId}
 use Rattle.sector_images.specs.declared.format.Format.{Format}
 use Rattle.sector_report.specs.declared.naming.Naming.{Naming}
 use Rattle.turn_merge.specs.Readings.{NotedReading, verdict}
-use Rattle.flux_engine.specs.Disks.{IsDecoded, report_over}
+use Rattle.flux_engine.specs.Disks.{part_at}
+use Rattle.flux_engine.specs.Plans.{IsPlanned, Planned, streams_in}
 use Rattle.flux_engine.specs.Recordings.{sectors_of}
-use Rattle.flux_engine.specs.Tracks.{line_by}
+use Rattle.flux_engine.specs.Tracks.{line_by, part_by}
+use Rattle.flux_engine.specs.declared.plan.Plan.{Plan}
 use Rattle.disk_map.specs.Looks.{colour_of, kind_of, shape_of}
-use Rattle.disk_map.specs.Maps.{IsMapped, Mapped, field_of, fields_by, parts_of}
+use Rattle.disk_map.specs.Maps.{IsDrawn, ShowsTrack, drawn_by, field_of, fields_by}
 use Rattle.disk_map.specs.Places.{field_top, layout_of, left_of}
 use Rattle.disk_map.specs.Texts.{mark_text}
 use Rattle.disk_map.specs.declared.kind.Kind.{Kind}
-
--- an input comes to one picture
-abbrev pub OneMap : Type 0
-OneMap = (format : Format) (x : List ℕ) (a b : Mapped) → IsMapped format x a → IsMapped format x b → a ≡ b
 
 -- no two kinds of verdicts have one colour
 abbrev pub ColoursTell : Type 0
@@ -41,6 +39,15 @@ abbrev pub EachSectorHasItsField : Type 0
 EachSectorHasItsField = (naming : Naming) (format : Format) (track : TrackId) (readings : List NotedReading) (index : ℕ) → index < (sectors_of format track).count
     → HasField naming format track readings index ((sectors_of format track).first + index)
 
--- What is drawn of an input is what the input decodes to: the same tracks by the same readings, the same totals, and the same stop.
+-- A picture is that of a report: the report of the same streams has the same totals and the same stop, and of each track the picture has
+-- the fields by what was gathered of it, of which the report has the lines.
+pub record ShowsDisk (plan : Plan) (format : Format) (x : List ℕ) (d : Planned) (is : IsDrawn plan format x d) : Type 0 where
+  pub report : Planned
+  pub read : IsPlanned plan (part_by plan.naming) format (streams_in plan x) report
+  pub totals : report.totals ≡ d.totals
+  pub stop : report.stop ≡ d.stop
+  pub tracks : (n : ℕ) → n < length is.parts
+      → ShowsTrack (drawn_by plan.naming) (part_by plan.naming) format n (part_at is.parts n) (part_at read.parts n)
+
 abbrev pub MapsAreOfReports : Type 0
-MapsAreOfReports = (format : Format) (x : List ℕ) (o : Mapped) (is : IsMapped format x o) → IsDecoded format x (report_over (parts_of is.tracks) o.stop)
+MapsAreOfReports = (plan : Plan) (format : Format) (x : List ℕ) (d : Planned) (is : IsDrawn plan format x d) → ShowsDisk plan format x d is

@@ -5,10 +5,12 @@ ghost use Rattle.flux_base.specs.Moments.{Puts};
 ghost use Rattle.flux_base.specs.World.{sink_at, source_counts, sink_counts};
 ghost use Rattle.flux_engine.specs.Answers.{Stayed};
 ghost use Rattle.flux_engine.specs.Blamed.{plan_blame};
-ghost use Rattle.flux_engine.specs.Needed.{EndsInStreams, ReadsWhereOpen};
+ghost use Rattle.flux_engine.specs.Needed.{ReadsWhereOpen};
+ghost use Rattle.flux_engine.specs.PlanAnswers.{IsFinished};
+ghost use Rattle.flux_engine.specs.Plans.{EndsInPlan};
 ghost use Rattle.flux_engine.specs.Room.{fresh};
 ghost use Rattle.kryo_stream.specs.Reads.{reads_at};
-ghost use Rattle.disk_map.specs.Answers.{IsWholeOrRefused, MapsDisk, SaysOfMapInput};
+ghost use Rattle.disk_map.specs.Answers.{MapsDisk, SaysOfMapInput};
 ghost use Rattle.disk_map.specs.Places.{layout_of};
 ghost use Rattle.disk_map.specs.Progress.{EndsEarly};
 ghost use Rattle.disk_map.specs.Texts.{grid_text, grids_text, top_by};
@@ -18,54 +20,48 @@ use crate::layout::Layout;
 use crate::text::write_text;
 use crate::texts::{begin_text, foot_text, grid_text, labels};
 use flux_base::{CountingSink, Failed, Sink, Source, write_whole};
-use flux_engine::{
-    Clocks, DiskRoom, Plan, PlanFault, Rule, decode_planned_tracks, no_totals, room_format,
-};
+use flux_engine::{DiskRoom, Plan, PlanFault, decode_planned_tracks, no_totals, room_format};
 use sector_images::Format;
-use sector_report::{Naming, Totals, refused_line, total_line};
+use sector_report::{Totals, refused_line, total_line};
 
-/// Draws a disk: reads the streams of its tracks in order, by the plan of `decode_disk` of the engine, and writes the picture of what
-/// they come to, the fields of each track as soon as it is read. No answer is for want of memory.
+/// Draws a disk: reads the streams of its tracks in order by a plan, and writes the picture of what they come to, the fields of each track as soon as it is read. No answer is for want of memory.
 ///
 /// What stands after the last stream is not looked at. After `ReadFault`, and after `ImageFault`, where the picture was not
 /// written, nothing more is read or written. Where a stream is refused, the picture of the tracks before it is brought to its
 /// end, and says why. No notes are written, so `NotesFault` does not come.
 pub fn map_disk<S: Source, P: Sink>(
+    plan: Plan,
     room: &mut DiskRoom,
     source: &mut S,
     picture: &mut P,
 ) -> Result<Totals, PlanFault>
-    requires { room.old ≡ fresh room.old.format }
-    ensures mapped { MapsDisk room.old.format (S.left source.old) (S.left source.new) (P.written picture.old) (P.written picture.new) result }
-    ensures told { (bytes : List ℕ) → S.left source.old ≡ Some bytes → SaysOfMapInput room.old.format bytes (S.left source.new) (P.written picture.old) (P.written picture.new) result }
+    requires fresh { room.old ≡ fresh room.old.format }
+    requires some { 1 ≤ plan.captures }
+    requires few { plan.captures ≤ 16 }
+    ensures mapped { MapsDisk plan room.old.format (S.left source.old) (S.left source.new) (P.written picture.old) (P.written picture.new) result }
+    ensures told { (bytes : List ℕ) → S.left source.old ≡ Some bytes → SaysOfMapInput plan room.old.format bytes (S.left source.new) (P.written picture.old) (P.written picture.new) result }
 
     // A source that tells its bytes is read only where those that it gave before end inside a stream.
-    ensures needed { (bytes : List ℕ) → S.left source.old ≡ Some bytes → ReadsWhereOpen (EndsInStreams room.old.format) (reads_at S.Source source.old) (reads_at S.Source source.new) }
+    ensures needed { (bytes : List ℕ) → S.left source.old ≡ Some bytes → ReadsWhereOpen (EndsInPlan plan room.old.format) (reads_at S.Source source.old) (reads_at S.Source source.new) }
 
     ensures blames { CountsBy (plan_blame result)
         (three_counts (source_counts S.Source source.old) (sink_counts P.Sink picture.old) no_counts)
         (three_counts (source_counts S.Source source.new) (sink_counts P.Sink picture.new) no_counts) }
 
     // Over a source and a sink that do not fail there is no other answer.
-    ensures complete { Stayed (S.faults source.old) (S.faults source.new) → Stayed (P.faults picture.old) (P.faults picture.new) → IsWholeOrRefused result }
+    ensures complete { Stayed (S.faults source.old) (S.faults source.new) → Stayed (P.faults picture.old) (P.faults picture.new) → IsFinished result }
 {
     let format = room_format(room);
     match write_top("map", format, picture) {
         Ok(()) => {}
         Err(_) => return Err(PlanFault::ImageFault),
     }
-    let plan = Plan {
-        captures: 1,
-        rule: Rule::Strict,
-        clocks: Clocks::FollowingAlone,
-        naming: Naming::Unnamed,
-    };
     let mut nothing = CountingSink::new();
     let mut totals = no_totals();
     match decode_planned_tracks(
         plan,
         &FieldWriter {
-            naming: Naming::Unnamed,
+            naming: plan.naming,
         },
         room,
         source,

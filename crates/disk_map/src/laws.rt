@@ -1,9 +1,7 @@
 //! What a picture tells.
 
 ghost use Rattle.disk_map.specs.Dumps.{PicturesOfDumpsShowReports};
-ghost use Rattle.disk_map.specs.Laws.{ColoursTell, EachSectorHasItsField, MapsAreOfReports, OneMap, ShapesTell};
-
-use disk_recordings::tracks_are_read;
+ghost use Rattle.disk_map.specs.Laws.{ColoursTell, EachSectorHasItsField, MapsAreOfReports, ShapesTell};
 
 /// A field tells its verdict by its colour, and by its shape alone.
 pub fn fields_tell_verdicts()
@@ -16,7 +14,8 @@ pub fn each_sector_has_its_field()
     ensures { EachSectorHasItsField }
 {}
 
-/// The tracks of a picture are those of the report of the same input, by the same readings, with its totals and its stop.
+/// The picture of a disk is that of its report: the same totals and the same stop, and in each track the fields of the sectors whose lines the
+/// report has, by the same readings.
 pub fn maps_are_of_reports()
     ensures { MapsAreOfReports }
 {}
@@ -26,10 +25,3 @@ pub fn maps_are_of_reports()
 pub fn dumps_are_drawn_as_reported()
     ensures { PicturesOfDumpsShowReports }
 {}
-
-/// An input comes to one picture.
-pub fn maps_are_one()
-    ensures { OneMap }
-{
-    tracks_are_read()
-}

@@ -19,7 +19,7 @@ pub use dumps::map_dumps;
 pub use kind::Kind;
 pub use laws::{
     dumps_are_drawn_as_reported, each_sector_has_its_field, fields_tell_verdicts,
-    maps_are_of_reports, maps_are_one,
+    maps_are_of_reports,
 };
 pub use layout::Layout;
 pub use text::Text;

@@ -1,7 +1,6 @@
 -- What was gathered of a stream is all that can be read on its track.
-use Rattle.std.specs.Prelude.{◌≡◌, ◌<◌, ℕ, suc, ◌+◌, ◌-◌, List, [], ◌∷◌, ◌++◌, length, replicate, slice_index_or, Option, None, Ok, Err, refl}
+use Rattle.std.specs.Prelude.{◌≡◌, ◌<◌, ℕ, suc, ◌+◌, ◌-◌, List, [], ◌∷◌, ◌++◌, length, replicate, slice_index_or, Option, None, Ok, refl, Bool, false}
 use Rattle.std.proofs.Common.{ap, sym, subst, ◌∙◌, arith}
-use Rattle.std.specs.Prelude.{Bool, false}
 use Rattle.flux_base.specs.declared.track.TrackId.{TrackId}
 use Rattle.disk_recordings.specs.Members.{as_controllers_read, data_at, header_at, named_at, sector_at, whole_data_of}
 use Rattle.frame_law.specs.Readings.{AreReadings}
@@ -12,7 +11,7 @@ use Rattle.turn_merge.specs.Readings.{NotedReading, verdict, agreed}
 use Rattle.turn_merge.specs.declared.verdict.Verdict.{Verdict}
 use Rattle.turn_merge.specs.declared.verdict.Verdict.TheVariants.{Missing}
 use Rattle.index_turns.specs.Track.{TrackState}
-use Rattle.flux_engine.specs.Answers.{CaptureAnswer, ReadsCapture, ReadsStream}
+use Rattle.flux_engine.specs.Answers.{ReadsStream}
 use Rattle.flux_engine.specs.Captured.{AreOthersOfClock, AreReadingsBy, IsUsed}
 use Rattle.flux_engine.specs.Gathering.{Gathers, GathersOthers, HasNoted, HasNotedBy}
 use Rattle.flux_engine.specs.PlanAnswers.{ReadsByClocks}
@@ -131,23 +130,6 @@ module _ (rule : Rule) (format : Format) (track : TrackId) (times indexes : List
     others_noted = append_others before between after n.others m.others n.others_noted m.others_noted;
     few_others = omega (arith, n.few_others, m.few_others);
   }
-
-module _ (format : Format) (track : TrackId) (left left' : Option (List ℕ)) (used : Bool) (held held' : List ℕ) (old new : Knowledge) where
-  -- by the one clock
-  pub reads_capture : (before after : OthersKnown) (capture : ℕ) (answer : CaptureAnswer)
-      → ReadsByClocks Strict FollowingAlone format track capture left left' used held held' old new before after answer
-      → ReadsCapture format track capture left left' used held held' old new answer
-  reads_capture before after capture (Ok u) c = record {
-    times = c.times;
-    indexes = c.indexes;
-    read = c.read;
-    noted = (
-      c.noted.0,
-      subst (AreReadingsBy Strict Following format track c.times c.indexes capture) (sym c.noted.1.are) (c.noted.1.each Following tt),
-      c.noted.2,
-    );
-  }
-  reads_capture before after capture (Err fault) c = record { times = c.times; indexes = c.indexes; read = c.read; noted = tt }
 
 -- what is known of a sector without a reading
 abbrev nothing : Found

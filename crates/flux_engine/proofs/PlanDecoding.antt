@@ -21,7 +21,7 @@ use Rattle.flux_engine.specs.declared.track_part.PartFault.{PartFault}
 use Rattle.flux_engine.specs.declared.track_part.PartFault.TheVariants.{ImageFault as PartImageFault, NotesFault as PartNotesFault}
 use Rattle.flux_engine.specs.declared.fault.PlanFault.{PlanFault}
 use Rattle.flux_engine.specs.declared.fault.PlanFault.TheVariants.{ReadFault, ImageFault, NotesFault, Refused}
-use Rattle.flux_engine.proofs.PlanParts.{stops_here, stops_nowhere}
+use Rattle.flux_engine.specs.lemmas.PlanStops.{stops_here, stops_nowhere}
 use Rattle.flux_engine.specs.declared.plan.Plan.{Plan}
 
 module _ (plan : Plan) (of : PartOf) (format : Format) (left left' image image' notes notes' : Option (List ℕ)) (totals : Totals) where

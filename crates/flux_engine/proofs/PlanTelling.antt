@@ -17,7 +17,7 @@ use Rattle.flux_engine.specs.PlanAnswers.{DecodesPlanned, IsOfBytesTaken, SaysOf
 use Rattle.flux_engine.specs.PlanProgress.{HasCome}
 use Rattle.flux_engine.specs.Plans.{EndsInPlan, PartOf}
 use Rattle.flux_engine.specs.declared.fault.PlanFault.TheVariants.{ReadFault, ImageFault, NotesFault, Refused}
-use Rattle.flux_engine.proofs.PlanParts.{stops_here}
+use Rattle.flux_engine.specs.lemmas.PlanStops.{stops_here}
 use Rattle.flux_engine.specs.declared.plan.Plan.{Plan}
 
 at_end : (x taken : List ℕ) (left' : Option (List ℕ)) → IsAtEnd left' → (r : Rest x left' taken) → r.rest ≡ []

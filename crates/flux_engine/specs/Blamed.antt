@@ -3,8 +3,6 @@ use Rattle.std.specs.Prelude.{Bool, true, false, Result, Ok, Err}
 use Rattle.flux_base.specs.Blames.{Blame, no_one, the_source, the_image, the_notes}
 use Rattle.kryo_stream.specs.declared.fault.CaptureFault.{CaptureFault}
 use Rattle.kryo_stream.specs.declared.fault.CaptureFault.TheVariants.{ReadFault as UnreadCapture}
-use Rattle.flux_engine.specs.declared.fault.EngineFault.{EngineFault}
-use Rattle.flux_engine.specs.declared.fault.EngineFault.TheVariants.{ReadFault as EngineReadFault, ImageFault as EngineImageFault, NotesFault as EngineNotesFault}
 use Rattle.flux_engine.specs.declared.fault.PlanFault.{PlanFault}
 use Rattle.flux_engine.specs.declared.fault.PlanFault.TheVariants.{ReadFault, ImageFault, NotesFault}
 use Rattle.flux_engine.specs.declared.track_part.PartFault.{PartFault}
@@ -33,12 +31,6 @@ abbrev pub sink_blame : {A : Type 0} → Result A PlanFault → Blame
 sink_blame (Err ImageFault) = the_image
 sink_blame (Err NotesFault) = the_notes
 sink_blame _ = no_one
-
-abbrev pub engine_blame : {A : Type 0} → Result A EngineFault → Blame
-engine_blame (Err EngineReadFault) = the_source
-engine_blame (Err EngineImageFault) = the_image
-engine_blame (Err EngineNotesFault) = the_notes
-engine_blame _ = no_one
 
 -- streams are written to the sink of an image
 abbrev pub write_blame : {A : Type 0} → Result A WriteFault → Blame

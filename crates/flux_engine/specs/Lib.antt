@@ -11,7 +11,6 @@ pub mod Room
 pub mod Answers
 pub mod Blamed
 pub mod Reading
-pub mod Laws
 pub mod DiskLaws
 pub mod Rings
 pub mod Captures

@@ -1,12 +1,9 @@
 -- When a source is read: only where the bytes that it gave before leave the answer open.
-use Rattle.std.specs.Prelude.{◌≡◌, ◌<◌, ℕ, List, [], length, take, Some}
+use Rattle.std.specs.Prelude.{◌≡◌, ◌<◌, ℕ, List, [], length, take}
 use Rattle.std.specs.List.{concat}
 use Rattle.std.specs.Io.KnownBytes.{Consumes}
 use Rattle.flux_base.specs.Outside.{Gives}
 use Rattle.kryo_stream.specs.Reads.{SourceMoment}
-use Rattle.kryo_stream.specs.declared.fault.StreamFault.TheVariants.{Truncated}
-use Rattle.sector_images.specs.declared.format.Format.{Format}
-use Rattle.flux_engine.specs.Disks.{Stop, stop_of}
 
 -- Reads gave these pieces, each where what the reads before it gave left the answer open. Without a read the count of faults stays.
 pub record ReadsWhereOpen (IsOpen : List ℕ → Type 0) (old new : SourceMoment) : Type 0 where
@@ -15,10 +12,6 @@ pub record ReadsWhereOpen (IsOpen : List ℕ → Type 0) (old new : SourceMoment
   pub consumed : Consumes old.left new.left (concat pieces)
   pub needed : (k : ℕ) → k < length pieces → IsOpen (concat (take k pieces))
   pub still : pieces ≡ [] → new.faults ≡ old.faults
-
--- the streams of a disk go on after these bytes: they end inside a block, and no stream before has a fault
-abbrev pub EndsInStreams : Format → List ℕ → Type 0
-EndsInStreams format x = (stop : Stop) × (stop_of format x ≡ Some stop) × (stop.fault ≡ Truncated)
 
 -- each read was made where fewer than so many bytes were given
 unfoldable pub ReadsUpTo : ℕ → (old new : SourceMoment) → Type 0

@@ -5,7 +5,7 @@ use Rattle.flux_base.specs.declared.track.TrackId.{TrackId}
 use Rattle.turn_merge.specs.Book.{Knowledge}
 use Rattle.turn_merge.specs.Others.{NotedOther, OthersKnown}
 use Rattle.turn_merge.specs.Readings.{NotedReading}
-use Rattle.flux_engine.specs.Answers.{Answer, AppendsAndPart, CaptureAnswer, IsTakenBehind, ReadsStream}
+use Rattle.flux_engine.specs.Answers.{AppendsAndPart, CaptureAnswer, IsTakenBehind, ReadsStream}
 use Rattle.flux_engine.specs.Captured.{AppendsOthers, AppendsReadings, AreOthersOf, AreReadingsOf}
 use Rattle.flux_engine.specs.Disks.{images, lines, totals_over}
 use Rattle.flux_engine.specs.Tracks.{TrackPart}
@@ -22,7 +22,6 @@ use Rattle.sector_report.specs.declared.totals.Totals.{Totals}
 use Rattle.flux_engine.specs.Plans.{ArePlannedParts, IsPlanned, PartOf, PlanStop, Planned, streams_in}
 use Rattle.kryo_stream.specs.declared.fault.CaptureFault.{CaptureFault}
 use Rattle.kryo_stream.specs.declared.fault.CaptureFault.TheVariants.{ReadFault as UnreadCapture, Refused as RefusedCapture}
-use Rattle.flux_engine.specs.declared.fault.EngineFault.TheVariants.{ReadFault as EngineReadFault, ImageFault as EngineImageFault, NotesFault as EngineNotesFault, Refused as RefusedDisk}
 use Rattle.flux_engine.specs.declared.fault.PlanFault.{PlanFault}
 use Rattle.flux_engine.specs.declared.fault.PlanFault.TheVariants.{ReadFault, ImageFault, NotesFault, Refused}
 
@@ -142,11 +141,3 @@ abbrev pub IsFinished : PlanAnswer → Type 0
 IsFinished (Ok _) = Unit {0}
 IsFinished (Err (Refused _ _ _ _)) = Unit {0}
 IsFinished (Err _) = ⊥
-
--- the answer for a disk that is decoded, whose faults name no capture
-abbrev pub engine_answer : PlanAnswer → Answer
-engine_answer (Ok totals) = Ok totals
-engine_answer (Err ReadFault) = Err EngineReadFault
-engine_answer (Err ImageFault) = Err EngineImageFault
-engine_answer (Err NotesFault) = Err EngineNotesFault
-engine_answer (Err (Refused track capture block fault)) = Err (RefusedDisk track block fault)

@@ -8,7 +8,7 @@ use Rattle.sector_images.specs.Places.{tracks}
 use Rattle.sector_images.specs.declared.format.Format.{Format}
 use Rattle.sector_report.specs.declared.dump_lines.Passed.{Passed}
 use Rattle.sector_report.specs.declared.dump_lines.Passed.TheVariants.{Failed}
-use Rattle.sector_report.specs.declared.naming.Naming.TheVariants.{Unnamed}
+use Rattle.sector_report.specs.declared.naming.Naming.TheVariants.{ByCapture, ByClock, Unnamed}
 use Rattle.turn_merge.specs.Others.{NotedOther}
 use Rattle.turn_merge.specs.Readings.{NotedReading}
 use Rattle.flux_engine.specs.Captured.{AreNamesOf, AreOthersOf, AreReadingsOf}
@@ -17,7 +17,7 @@ use Rattle.flux_engine.specs.Recordings.{track_at}
 use Rattle.flux_engine.specs.Streams.{stream_at}
 use Rattle.flux_engine.specs.Tracks.{TrackNotes, TrackPart, track_notes}
 use Rattle.flux_engine.specs.declared.gathered_track.PassedStream.{PassedStream}
-use Rattle.flux_engine.specs.declared.plan.Clocks.TheVariants.{FollowingAlone}
+use Rattle.flux_engine.specs.declared.plan.Clocks.TheVariants.{Both, FollowingAlone}
 use Rattle.flux_engine.specs.declared.plan.Plan.{Plan}
 use Rattle.flux_engine.specs.declared.plan.Rule.TheVariants.{Strict}
 
@@ -147,3 +147,11 @@ EndsInPlan plan format x = (stop : PlanStop) × IsFirstFault plan format (stream
 -- the plan by which a disk is decoded: one stream of each track, by the clock that follows the drive, and lines that name no source
 abbrev pub decoding : Plan
 decoding = record { captures = 1; rule = Strict; clocks = FollowingAlone; naming = Unnamed }
+
+-- that of a set: so many streams of each track, by the clock that follows the drive, and lines that name the capture
+abbrev pub set_plan : (count : ℕ) → Plan
+set_plan count = record { captures = count; rule = Strict; clocks = FollowingAlone; naming = ByCapture }
+
+-- that of a rescued disk: one stream of each track, by both clocks, and lines that name the clock
+abbrev pub rescuing : Plan
+rescuing = record { captures = 1; rule = Strict; clocks = Both; naming = ByClock }

@@ -1,7 +1,7 @@
 -- The streams of an input, one after another.
-use Rattle.std.specs.Prelude.{ℕ, zero, suc, Bool, List, drop, is_some, nat_lt}
+use Rattle.std.specs.Prelude.{ℕ, zero, suc, List, drop, nat_lt}
 use Rattle.kryo_stream.specs.Outcome.{input_of}
-use Rattle.kryo_stream.specs.Stream.{first_fault, stream_length}
+use Rattle.kryo_stream.specs.Stream.{stream_length}
 
 -- what stands after the stream that x begins with
 abbrev pub behind_stream : List ℕ → List ℕ
@@ -15,7 +15,3 @@ behind x (suc n) = behind_stream (input_of (nat_lt 0 n) (behind x n))
 -- stream number n of an input, from 0, with all that stands after it: padding stands before each stream but the first
 abbrev pub stream_at : List ℕ → ℕ → List ℕ
 stream_at x n = input_of (nat_lt 0 n) (behind x n)
-
--- stream number n has a fault
-abbrev pub has_fault : List ℕ → ℕ → Bool
-has_fault x n = is_some (first_fault (stream_at x n))

@@ -1,11 +1,10 @@
 -- What one track comes to: its readings, and from them its part of the image, its lines and its totals.
-use Rattle.std.specs.Prelude.{◌≡◌, ℕ, ◌+◌, ◌-◌, Bool, true, false, List, [], ◌∷◌, length, take, map, flat_map, replicate, count_by, slice_index, unwrap_or}
+use Rattle.std.specs.Prelude.{ℕ, ◌+◌, ◌-◌, Bool, true, false, List, [], ◌∷◌, length, take, map, flat_map, replicate, count_by, slice_index, unwrap_or}
 use Rattle.std.specs.List.{range_with_len}
 use Rattle.cell_bits.specs.Ones.{ones}
 use Rattle.flux_base.specs.declared.track.TrackId.{TrackId}
 use Rattle.frame_law.specs.declared.reading.Reading.TheVariants.{Nothing, Bad as BadFrame, Good as GoodFrame}
 use Rattle.frame_law.specs.declared.reading.Reading.{Reading as Frame}
-use Rattle.frame_law.specs.Readings.{AreReadings}
 use Rattle.index_turns.specs.Track.{turn_at}
 use Rattle.sector_images.specs.Places.{sector_in}
 use Rattle.sector_images.specs.declared.format.Format.{Format}
@@ -20,8 +19,7 @@ use Rattle.turn_merge.specs.declared.clock.Clock.TheVariants.{Following}
 use Rattle.turn_merge.specs.declared.verdict.Place.{Place}
 use Rattle.turn_merge.specs.declared.verdict.Verdict.{Verdict}
 use Rattle.turn_merge.specs.declared.verdict.Verdict.TheVariants.{Good, Contradictory, Bad, Missing}
-use Rattle.disk_recordings.specs.Members.{header_at, sector_at}
-use Rattle.flux_engine.specs.Recordings.{sectors_of, cells_of}
+use Rattle.flux_engine.specs.Recordings.{sectors_of}
 use Rattle.flux_engine.specs.declared.gathered_track.PassedStream.{PassedStream}
 use Rattle.disk_recordings.specs.declared.sectors.Sectors.{Sectors}
 
@@ -144,9 +142,3 @@ part_by naming format track notes = named_part naming format track notes.reading
 -- by readings, where no source is named
 abbrev pub part_of : Format → TrackId → List NotedReading → TrackPart
 part_of format track readings = named_part Unnamed format track readings
-
--- all that can be read on a track with these transitions and index times, and what it comes to
-pub record IsPart (format : Format) (track : TrackId) (times indexes : List ℕ) (part : TrackPart) : Type 0 where
-  pub found : List Found
-  pub all : AreReadings (header_at format track) (sector_at format track) (cells_of format track times indexes) 0 found
-  pub is : part ≡ part_of format track (readings_of times indexes (cells_of format track times indexes) found)

@@ -4,12 +4,10 @@ pub mod PartLaws
 pub mod Pieces
 pub mod ReadLaws
 pub mod Coming
-pub mod OneCapture
 pub mod Each
 pub mod GoodSectors
 pub mod Repeated
 pub mod WrittenOnes
-pub mod OneStream
 pub mod NoOthers
 pub mod LineNumbers
 pub mod VerdictBounds
@@ -19,3 +17,4 @@ pub mod OneParts
 pub mod NoneAgreed
 pub mod Blamed
 pub mod TrackAt
+pub mod PlanStops

@@ -11,7 +11,6 @@
 #![tactic(auto)]
 
 mod capture;
-mod disk;
 mod disk_streams;
 mod fault;
 mod gathered_track;
@@ -23,7 +22,6 @@ mod planned;
 mod ring_making;
 mod room;
 mod told_names;
-mod track;
 mod track_captures;
 mod track_part;
 mod track_streams;
@@ -34,26 +32,21 @@ mod write_room;
 mod writing;
 
 pub use capture::{
-    bytes, read_by_clocks, read_capture, read_stream, recover_cells, room_format, room_gathered,
+    bytes, end_track, read_by_clocks, read_stream, recover_cells, room_format, room_gathered,
     start_track, verdict,
 };
-pub use disk::{add_totals, decode_disk};
 pub use disk_recordings::{Sectors, sectors_of};
 pub use disk_streams::{fill, write_disk};
-pub use fault::{EngineFault, PlanFault};
+pub use fault::PlanFault;
 pub use gathered_track::{Gathered, PassedStream, PassedStreams};
 pub use gathering::{note_reading, place_of};
 pub use kryo_stream::CaptureFault;
-pub use laws::{
-    good_is_right, good_is_right_on_disks, lines_tell_verdicts, outcomes_are_one,
-    parts_fill_images, parts_stay, plans_are_right, rules_are_read,
-};
+pub use laws::{plans_are_right, rules_are_read};
 pub use names::{NamedStreams, count_names, take_names};
-pub use plan::{Clocks, Plan, Rule};
+pub use plan::{Clocks, Plan, Rule, decoding_plan, rescue_plan, set_plan};
 pub use planned::{decode_planned, decode_planned_tracks, decode_tracks};
 pub use ring_making::track_ring;
 pub use room::{DiskRoom, MOST_CELLS, format_book, lost_count};
-pub use track::decode_track;
 pub use track_part::{PartFault, write_part};
 pub use track_streams::{NextStream, OneAfterAnother, TrackStreams};
 pub use track_writer::{ImageAndReport, TrackWriter};
@@ -62,4 +55,4 @@ pub use write_laws::{
     captures_are_recovered, images_have_rings, steady_captures_are_recovered, streams_are_captures,
 };
 pub use write_room::WriteRoom;
-pub use writing::{count_verdict, no_totals, write_image, write_lines};
+pub use writing::{add_totals, count_verdict, no_totals, write_image, write_lines};

@@ -1,3 +1,6 @@
+ghost use Rattle.std.specs.Prelude.{◌≡◌, ◌≤◌};
+ghost use Rattle.flux_engine.specs.Plans.{decoding, rescuing, set_plan as plan_of_set};
+
 use sector_report::Naming;
 
 /// By which clocks the cells of each stream are recovered.
@@ -28,4 +31,39 @@ pub struct Plan {
     pub clocks: Clocks,
     /// How the lines name the places of readings.
     pub naming: Naming,
+}
+
+/// The plan of a disk that is decoded: one stream of each track, by the clock that follows the drive, and lines that name no source.
+pub fn decoding_plan() -> Plan
+    ensures { result ≡ decoding }
+{
+    Plan {
+        captures: 1,
+        rule: Rule::Strict,
+        clocks: Clocks::FollowingAlone,
+        naming: Naming::Unnamed,
+    }
+}
+
+/// The plan of a set: so many streams of each track, by the clock that follows the drive, and lines that name the capture.
+pub fn set_plan(count: u32) -> Plan
+    requires { count ≤ 16 }
+    ensures { result ≡ plan_of_set count }
+{
+    Plan {
+        captures: count as u8,
+        naming: Naming::ByCapture,
+        ..decoding_plan()
+    }
+}
+
+/// The plan of a rescued disk: one stream of each track, by both clocks, and lines that name the clock.
+pub fn rescue_plan() -> Plan
+    ensures { result ≡ rescuing }
+{
+    Plan {
+        clocks: Clocks::Both,
+        naming: Naming::ByClock,
+        ..decoding_plan()
+    }
 }

@@ -18,7 +18,6 @@ ghost use Rattle.kryo_stream.specs.Reads.{reads_at};
 ghost use Rattle.sector_images.specs.Places.{tracks};
 
 use crate::capture::write_started;
-use crate::disk::add_totals;
 use crate::fault::PlanFault;
 use crate::plan::Plan;
 use crate::room::DiskRoom;
@@ -26,7 +25,7 @@ use crate::track_captures::read_captures;
 use crate::track_part::PartFault;
 use crate::track_streams::{OneAfterAnother, TrackStreams};
 use crate::track_writer::{ImageAndReport, TrackWriter};
-use crate::writing::no_totals;
+use crate::writing::{add_totals, no_totals};
 use flux_base::{Sink, Source};
 use kryo_stream::{growth_law, padding_law};
 use sector_images::{sectors_lie_in_images, track_count, tracks_keep_bounds};

@@ -28,7 +28,7 @@ pub enum PartFault {
     NotesFault,
 }
 
-/// Writes what the readings of a track come to, as `decode_track` does: its part of the image, a piece for each sector,
+/// Writes what the readings of a track come to: its part of the image, a piece for each sector,
 /// in the order of their places there, and then its lines by the sectors' numbers, each in one piece, with so much of each source
 /// named. Gives its totals.
 pub fn write_part<W: Sink, N: Sink>(

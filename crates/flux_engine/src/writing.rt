@@ -1,6 +1,6 @@
 //! What a track comes to, written out.
 
-ghost use Rattle.std.specs.Prelude.{◌≡◌, ℕ, ◌+◌, ◌≤◌, ◌<◌, ◌++◌, List, [], ◌∷◌, map, length, replicate, unwrap_or, is_err, IfOk, OnOk, OnErr};
+ghost use Rattle.std.specs.Prelude.{◌≡◌, ◌+◌, ◌≤◌, ◌<◌, ◌++◌, List, [], ◌∷◌, map, replicate, unwrap_or, is_err, IfOk, OnOk, OnErr};
 ghost use Rattle.std.specs.Io.KnownBytes.{Appends};
 ghost use Rattle.flux_base.specs.Bounds.{MOST_SECTOR_BYTES};
 ghost use Rattle.flux_base.specs.Counts.{Counts};
@@ -12,7 +12,7 @@ ghost use Rattle.turn_merge.specs.Readings.{NotedReading, agreed, verdict as ver
 ghost use Rattle.turn_merge.specs.declared.verdict.Verdict.{Verdict as SectorVerdict};
 ghost use Rattle.flux_engine.specs.Recordings.{sectors_of as sectors_in};
 ghost use Rattle.flux_engine.specs.Tracks.{image_of, lines_by, totals_of, numbers};
-ghost use Rattle.flux_engine.specs.Writing.{Knows, AreFew, IsSum};
+ghost use Rattle.flux_engine.specs.Writing.{Knows, AreFew, IsSum, sum_of};
 
 use disk_recordings::{Sectors, sectors_of};
 use flux_base::{Failed, MOST_SECTOR_BYTES, Sink, TrackId, write_whole};
@@ -120,4 +120,19 @@ pub fn count_verdict(totals: &mut Totals, verdict: Verdict)
         Verdict::Bad { .. } => totals.bad += 1,
         Verdict::Missing => totals.missing += 1,
     }
+}
+
+/// Adds the totals of one track more.
+pub fn add_totals(totals: &mut Totals, more: Totals)
+    requires sum { IsSum totals.old }
+    requires more { IsSum more }
+    requires few { totals.old.sectors + more.sectors < 1000000 }
+    ensures value { totals.new ≡ sum_of totals.old more }
+    ensures sum { IsSum totals.new }
+{
+    totals.sectors += more.sectors;
+    totals.good += more.good;
+    totals.bad += more.bad;
+    totals.missing += more.missing;
+    totals.contradictory += more.contradictory;
 }

@@ -2,11 +2,11 @@
 use Rattle.std.specs.Prelude.{◌≡◌, ◌<◌, ◌≤◌, ℕ, suc, ◌+◌, ◌-◌, ◌*◌, ◌%◌, Bool, true, false, not, List, length, map, get_or, nat_eq, slice_index}
 use Rattle.std.specs.List.{list_any, range_with_len}
 use Rattle.std.proofs.Common.{arith, ap, sym, subst, ◌∙◌, add-one}
-use Rattle.std.proofs.lemmas.List.{get_or-map, length-map}
+use Rattle.std.proofs.lemmas.List.{length-map}
 use Rattle.std.proofs.lemmas.List.FromFn.{get_or-map-range_with_len, length-map-range_with_len}
 use Rattle.flux_writer.specs.Reading.{IsStreamOf}
 use Rattle.flux_writer.specs.Written.{ones_of, quarter, stream_of_times, track_cells}
-use Rattle.track_rings.specs.Rings.{AreNeighbours, cell_of, last_in}
+use Rattle.track_rings.specs.Rings.{cell_of, last_in}
 use Rattle.flux_engine.specs.Captures.{Capture, mean_cell}
 use Rattle.phase_loop.specs.Carried.{AreClose, Carried, OFF_START}
 use Rattle.flux_trial.specs.Drive.{Drive, base, ideal, period, time_of}

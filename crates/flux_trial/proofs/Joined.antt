@@ -1,5 +1,5 @@
 -- A trial's input is its streams, one after another.
-use Rattle.std.specs.Prelude.{◌≡◌, ◌++◌, ℕ, Bool, List, [], flat_map, length, refl}
+use Rattle.std.specs.Prelude.{◌≡◌, ℕ, List, [], flat_map, length, refl}
 use Rattle.std.specs.List.{range_with_len}
 use Rattle.std.proofs.Common.{append-nil, arith, sym}
 use Rattle.std.proofs.lemmas.List.Elements.{All-nil}

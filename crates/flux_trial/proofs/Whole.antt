@@ -1,20 +1,22 @@
 -- A trial without a hole decodes whole.
-use Rattle.std.specs.Prelude.{◌≡◌, ◌<◌, ◌+◌, ℕ, suc, cond, List, [], ◌∷◌, count_by, flat_map, length, map, slice_get, sum, sum_by, unwrap_or, refl}
-use Rattle.std.specs.List.{range_with_len}
-use Rattle.std.proofs.Common.{ap, append-nil, arith, sym, subst, ◌∙◌}
+use Rattle.std.specs.Prelude.{◌≡◌, ◌<◌, ◌+◌, ◌*◌, ℕ, suc, cond, List, [], ◌∷◌, count_by, length, map, slice_get, sum, sum_by, unwrap_or, refl}
+use Rattle.std.proofs.Common.{ap, arith, sym, subst, ◌∙◌}
 use Rattle.std.proofs.lemmas.List.FromFn.{length-map-range_with_len}
 use Rattle.std.proofs.lemmas.List.Sums.{sum_by-cons}
-use Rattle.law_captured_disks.specs.Headline.{CapturedDisksDecode, DecodesWhole}
+use Rattle.law_captured_disks.specs.Inputs.{AreJoined}
+use Rattle.law_captured_plans.specs.Headline.{CapturedPlansAreRead, IsReadWhole}
 use Rattle.flux_base.specs.declared.track.TrackId.{TrackId}
-use Rattle.flux_engine.specs.Disks.{Decoded, IsDecoded, IsPartAt, decoded_count, part_at, totals_over}
-use Rattle.flux_engine.specs.Recordings.{cells_of, sectors_of, track_at}
-use Rattle.flux_engine.specs.Streams.{stream_at}
-use Rattle.flux_engine.specs.Tracks.{TrackPart, is_bad, is_contradictory, is_good, is_missing, numbers, readings_of}
-use Rattle.kryo_stream.specs.Stream.{indexes, times}
+use Rattle.flux_engine.specs.Captures.{Capture}
+use Rattle.flux_engine.specs.Disks.{part_at, totals_over}
+use Rattle.flux_engine.specs.Plans.{IsPlanned, IsPlannedPart, Planned, Streams, decoding, joined, planned_count, streams_in}
+use Rattle.flux_engine.specs.Recordings.{sectors_of, track_at}
+use Rattle.flux_engine.specs.Rings.{nominal_of}
+use Rattle.flux_engine.specs.Tracks.{TrackPart, is_bad, is_contradictory, is_good, is_missing, numbers, part_by}
 use Rattle.sector_images.specs.Formats.{zone}
 use Rattle.sector_images.specs.Places.{tracks}
 use Rattle.sector_images.specs.declared.format.Format.{Format}
 use Rattle.sector_report.specs.Lines.{trial_text}
+use Rattle.sector_report.specs.declared.naming.Naming.TheVariants.{Unnamed}
 use Rattle.sector_report.specs.declared.totals.Totals.{Totals}
 use Rattle.turn_merge.specs.Readings.{NotedReading, verdict}
 use Rattle.turn_merge.specs.declared.verdict.Verdict.{Verdict}
@@ -39,8 +41,11 @@ trials_are_captures laws format seed k none below =
 pub trials_are_captured_disks : Laws → TrialsAreCapturedDisks
 trials_are_captured_disks laws format seed none = record {
   stream = trial_stream format seed;
-  joined = input_joined format seed;
-  captured = λ k known. trials_are_captures laws format seed k none known;
+  joined = (let all : length (tracks format) ≡ length (tracks format) * 1 = omega arith in
+      subst (λ (n : ℕ). AreJoined n (trial_stream format seed) (trial_input format seed)) all (input_joined format seed));
+  captured = λ k q known low.
+      let only : k ≡ k * 1 + q = omega (arith, low) in
+      subst (λ (m : ℕ). Capture (trial_stream format seed m) (trial_ring format seed k) (nominal_of format k)) only (trials_are_captures laws format seed k none known);
 }
 
 -- a verdict is of one kind
@@ -71,12 +76,13 @@ record AreCounted (sectors : ℕ) (totals : Totals) : Type 0 where
 abbrev track_sectors : Format → TrackId → ℕ
 track_sectors format track = (zone format track.cylinder).sectors
 
-part_counted : (format : Format) (x : List ℕ) (n : ℕ) (part : TrackPart) → IsPartAt format x n part → AreCounted (track_sectors format (track_at format n)) part.totals
-part_counted format x n part at =
+part_counted : (format : Format) (streams : Streams) (n : ℕ) (part : TrackPart) → IsPlannedPart decoding (part_by Unnamed) format streams n part
+    → AreCounted (track_sectors format (track_at format n)) part.totals
+part_counted format streams n part at =
     let track : TrackId = track_at format n in
-    let readings : List NotedReading = readings_of (times (stream_at x n)) (indexes (stream_at x n)) (cells_of format track (times (stream_at x n)) (indexes (stream_at x n))) at.comes.found in
+    let readings : List NotedReading = joined at.captures in
     let vs : List Verdict = map (verdict readings) (numbers (sectors_of format track)) in
-    subst (λ (p : TrackPart). AreCounted (track_sectors format track) p.totals) (sym at.comes.is) (record {
+    subst (λ (p : TrackPart). AreCounted (track_sectors format track) p.totals) (sym at.is) (record {
       sectors_are = length-map-range_with_len (verdict readings) (sectors_of format track).first (sectors_of format track).count;
       each_once = all_kinds vs;
     })
@@ -120,21 +126,22 @@ totals_same n t counted good =
     ∙ ap (λ (k : ℕ). make n n 0 k t.contradictory) missing_is
     ∙ ap (λ (k : ℕ). make n n 0 0 k) contradictory_is
 
--- the totals of a disk that decodes whole
-totals-are : (format : Format) (x image : List ℕ) (o : Decoded) → IsDecoded format x o → DecodesWhole format image o → o.totals ≡ all_good format
-totals-are format x image o decoded whole =
-    let many : length decoded.parts ≡ length (tracks format) =
-    decoded.many ∙ ap (decoded_count format) (sym (ap (λ (d : Decoded). d.stop) decoded.is) ∙ whole.no_stop) in
-    let is : o.totals ≡ totals_over decoded.parts = ap (λ (d : Decoded). d.totals) decoded.is in
-    let counted : AreCounted (sectors_of_all format) (totals_over decoded.parts) =
-    parts_counted format (tracks format) decoded.parts many (λ n below. part_counted format x n (part_at decoded.parts n) (decoded.each n below)) in
+-- the totals of a disk that is read whole
+totals-are : (format : Format) (streams : Streams) (image : List ℕ) (o : Planned) → IsPlanned decoding (part_by Unnamed) format streams o
+    → IsReadWhole Unnamed format image o → o.totals ≡ all_good format
+totals-are format streams image o read whole =
+    let many : length read.parts ≡ length (tracks format) = read.many ∙ ap (planned_count format) whole.no_stop in
+    let is : o.totals ≡ totals_over read.parts = ap (λ (d : Planned). d.totals) read.is in
+    let counted : AreCounted (sectors_of_all format) (totals_over read.parts) =
+    parts_counted format (tracks format) read.parts many (λ n below. part_counted format streams n (part_at read.parts n) (read.each n below)) in
     totals_same (sectors_of_all format) o.totals (subst (AreCounted (sectors_of_all format)) (sym is) counted) whole.all_good
 
-pub whole_trials : TrialsAreCapturedDisks → CapturedDisksDecode → WholeTrialsHaveOneLine
-whole_trials disks decode format seed line none is =
+pub whole_trials : TrialsAreCapturedDisks → CapturedPlansAreRead → WholeTrialsHaveOneLine
+whole_trials disks read format seed line none is =
     let image : List ℕ = trial_image format seed in
-    let whole = decode format image (trial_input format seed) is.decoded (is_image format seed) (disks format seed none) is.is in
+    let x : List ℕ = trial_input format seed in
+    let whole = read decoding format image x is.decoded (omega arith) (is_image format seed) (disks format seed none) (λ used. absurd used) is.is in
     is.line_is
     ∙ ap (λ (t : Totals). trial_text format seed (length (tracks format)) t (sum is.decoded.image))
-    (totals-are format (trial_input format seed) image is.decoded is.is whole)
+    (totals-are format (streams_in decoding x) image is.decoded is.is whole)
     ∙ ap (λ (l : List ℕ). trial_text format seed (length (tracks format)) (all_good format) (sum l)) whole.image_is

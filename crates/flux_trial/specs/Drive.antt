@@ -1,8 +1,10 @@
--- A drive that is made up from a number: how fast it turns over a track, and how far it displaces the track's transitions (our own
--- choice, within the bounds of disturbance).
-use Rattle.std.specs.Prelude.{ℕ, zero, suc, ◌+◌, ◌-◌, ◌*◌, ◌/◌, ◌%◌, ◌&&◌, List, count_by, slice_index, nat_le, if◌then◌else◌}
+-- A drive that is made up from a number: how fast it turns over a track, and how far it displaces
+-- the track's transitions (our own choice, within the bounds of disturbance).
+use Rattle.std.specs.Prelude.{ℕ, zero, suc, ◌+◌, ◌-◌, ◌*◌, ◌/◌, ◌%◌, ◌&&◌, List, count_by}
+use Rattle.std.specs.Prelude.{slice_index, nat_le, if◌then◌else◌}
 
--- the seed of the trial, the number of the track, from 0, and the track's nominal cell in fine units of 1/1024 tick
+-- the seed of the trial, the number of the track, from 0, and the track's nominal
+-- cell in fine units of 1/1024 tick
 pub record Drive : Type 0 where
   pub seed : ℕ
   pub track : ℕ
@@ -21,10 +23,12 @@ base d = d.nominal - 8 * (d.nominal / 128) + (d.seed + d.track) % 17 * (d.nomina
 abbrev pub most_drift : Drive → ℕ
 most_drift d = d.nominal / 256
 
--- the period after one more step of chance: shorter by one, the same, or longer by one, but no farther from the first
+-- the period after one more step of chance: shorter by one, the same, or longer by one,
+-- but no farther from the first
 abbrev pub drifted : (base most period chance : ℕ) → ℕ
 drifted base most period chance =
-    if nat_le (base - most) (period + chance / 1048576 % 3 - 1) && nat_le (period + chance / 1048576 % 3 - 1) (base + most)
+    if nat_le (base - most) (period + chance / 1048576 % 3 - 1)
+    && nat_le (period + chance / 1048576 % 3 - 1) (base + most)
     then period + chance / 1048576 % 3 - 1
     else period
 
@@ -33,8 +37,8 @@ unfoldable pub period : Drive → ℕ → ℕ
 period d zero = base d
 period d (suc j) = drifted (base d) (most_drift d) (period d j) (chance d (suc j))
 
--- The ideal place of transition number j in fine units, where the transitions are at the ends of the cells with these numbers: a
--- local period for each cell after the one before.
+-- The ideal place of transition number j in fine units, where the transitions are at the ends of
+-- the cells with these numbers: a local period for each cell after the one before.
 unfoldable pub ideal : Drive → List ℕ → ℕ → ℕ
 ideal d ones zero = (slice_index ones 0 + 1) * base d
 ideal d ones (suc j) = ideal d ones j + (slice_index ones (suc j) - slice_index ones j) * period d j
@@ -43,7 +47,8 @@ ideal d ones (suc j) = ideal d ones j + (slice_index ones (suc j) - slice_index 
 abbrev pub most_way : Drive → ℕ
 most_way d = d.nominal / 8 - 1024
 
--- the time of a transition in ticks, by its ideal place: earlier by the most at chance 0, and later by as much at the greatest
+-- the time of a transition in ticks, by its ideal place: earlier by the most at chance 0, and
+-- later by as much at the greatest
 abbrev pub displaced : (most ideal chance : ℕ) → ℕ
 displaced most ideal chance = (ideal + chance / 16 % (2 * most + 1) - most) / 1024
 
@@ -55,7 +60,10 @@ time_of d ones j = displaced (most_way d) (ideal d ones j) (chance d (suc j))
 abbrev pub last_at : List ℕ → ℕ → ℕ
 last_at ones cell = count_by (λ one. nat_le one cell) ones - 1
 
--- the index time of an index cell in ticks: counted from the ideal place of the last transition at or before it
+-- the index time of an index cell in ticks: counted from the ideal place of the
+-- last transition at or before it
 abbrev pub index_time : Drive → List ℕ → ℕ → ℕ
 index_time d ones cell =
-    (ideal d ones (last_at ones cell) + (cell - slice_index ones (last_at ones cell)) * period d (last_at ones cell)) / 1024
+    (ideal d ones (last_at ones cell)
+    + (cell - slice_index ones (last_at ones cell)) * period d (last_at ones cell))
+    / 1024

@@ -6,8 +6,8 @@ use Rattle.track_rings.specs.Rings.{IsSpaced}
 use Rattle.flux_trial.specs.Drive.{Drive, index_time, time_of}
 use Rattle.flux_trial.specs.Hole.{is_lost, ring_cell}
 
--- a ring that a trial's drive turns over: its neighbouring ones, read cyclically, are one to four cells apart, and it has not few
--- cells and not very many
+-- a ring that a trial's drive turns over: its neighbouring ones, read cyclically, are one to four
+-- cells apart, and it has not few cells and not very many
 pub record IsTrialRing (ring : List Bool) : Type 0 where
   pub spaced : IsSpaced 1 4 ring
   pub least : 32768 ≤ length ring
@@ -19,9 +19,11 @@ is_seen d cells ones j = not (is_lost cells d.seed (ring_cell cells (slice_index
 
 -- the times of the transitions that are seen
 abbrev pub times_seen : Drive → (cells : ℕ) → List ℕ → List ℕ
-times_seen d cells ones = map (time_of d ones) (filter (is_seen d cells ones) (range_with_len 0 (length ones)))
+times_seen d cells ones =
+    map (time_of d ones) (filter (is_seen d cells ones) (range_with_len 0 (length ones)))
 
--- the times of a ring's transitions: the ring's last quarter, three turns, and its first quarter pass, as they are written
+-- the times of a ring's transitions: the ring's last quarter, three turns, and its first
+-- quarter pass, as they are written
 unfoldable pub trial_times : Drive → List Bool → List ℕ
 trial_times d ring = times_seen d (length ring) (ones_of (track_cells ring))
 

@@ -1,7 +1,9 @@
-ghost use Rattle.std.specs.Prelude.{◌≡◌, ◌<◌, ◌≤◌, ◌+◌, ◌-◌, ◌*◌, ◌/◌, ◌++◌, [], ◌∷◌, All, length, IfOk, OnOk, OnErr, IsOk};
+ghost use Rattle.std.specs.Prelude.{◌≡◌, ◌<◌, ◌≤◌, ◌+◌, ◌-◌, ◌*◌, ◌/◌, ◌++◌, [], ◌∷◌, All, length, IfOk, OnOk, OnErr};
+ghost use Rattle.std.specs.Prelude.{IsOk};
 ghost use Rattle.index_turns.specs.Track.{KeepsRoom, room_of_indexes, room_of_times};
 ghost use Rattle.flux_trial.specs.Times.{IsTrialRing, trial_indexes, trial_times};
-ghost use Rattle.flux_trial.specs.inside.Heads.{AreBefore, FitsRing, IsHole, IsSound, MOST_CELLS, OnRing, passed_all, reach, seen_time, seen_times};
+ghost use Rattle.flux_trial.specs.inside.Heads.{AreBefore, FitsRing, IsHole, IsSound, MOST_CELLS, OnRing, passed_all};
+ghost use Rattle.flux_trial.specs.inside.Heads.{reach, seen_time, seen_times};
 ghost use Rattle.flux_trial.specs.inside.Turning.{HasTurned};
 ghost use Rattle.flux_writer.specs.lemmas.FoundOnes.{ones_between};
 
@@ -11,12 +13,12 @@ use cell_bits::Cells;
 use flux_base::Memory;
 use index_turns::TrackFlux;
 
-/// Fills `flux` with what a drive gives of a ring, which is made up from a number and the track's: the times of the transitions and
-/// the index times, in ticks, of the ring's last quarter, three turns and its first quarter. The nominal cell is in fine units of
-/// 1/1024 tick.
+/// Fills `flux` with what a drive gives of a ring, which is made up from a number and the track's: the times of the
+/// transitions and the index times, in ticks, of the ring's last quarter, three turns and its first quarter. The
+/// nominal cell is in fine units of 1/1024 tick.
 ///
-/// After `Memory` the track is empty. It cannot come where `flux` has room for four times for each of the ring's cells and for four
-/// index times.
+/// After `Memory` the track is empty. It cannot come where `flux` has room for four times for each of the ring's
+/// cells and for four index times.
 pub fn trial_flux(
     ring: &Cells,
     nominal: u32,
@@ -27,8 +29,10 @@ pub fn trial_flux(
     requires least { 16384 ≤ nominal }
     requires most { nominal ≤ 131072 }
     requires ring { IsTrialRing ring.now.cells }
-    ensures times { OnOk result (flux.new.times ≡ trial_times (record { seed = seed; track = track; nominal = nominal }) ring.now.cells) }
-    ensures indexes { OnOk result (flux.new.indexes ≡ trial_indexes (record { seed = seed; track = track; nominal = nominal }) ring.now.cells) }
+    ensures times { OnOk result
+        (flux.new.times ≡ trial_times (record { seed = seed; track = track; nominal = nominal }) ring.now.cells) }
+    ensures indexes { OnOk result
+        (flux.new.indexes ≡ trial_indexes (record { seed = seed; track = track; nominal = nominal }) ring.now.cells) }
     ensures no_times { OnErr result (flux.new.times ≡ []) }
     ensures no_indexes { OnErr result (flux.new.indexes ≡ []) }
     ensures succeeds { 4 * length ring.now.cells ≤ room_of_times flux.old → 4 ≤ room_of_indexes flux.old → IsOk result }
@@ -57,8 +61,10 @@ fn turn_over(
     requires ring { IsTrialRing ring.now.cells }
     requires no_times { flux.old.times ≡ [] }
     requires no_indexes { flux.old.indexes ≡ [] }
-    ensures times { OnOk result (flux.new.times ≡ trial_times (record { seed = seed; track = track; nominal = nominal }) ring.now.cells) }
-    ensures indexes { OnOk result (flux.new.indexes ≡ trial_indexes (record { seed = seed; track = track; nominal = nominal }) ring.now.cells) }
+    ensures times { OnOk result
+        (flux.new.times ≡ trial_times (record { seed = seed; track = track; nominal = nominal }) ring.now.cells) }
+    ensures indexes { OnOk result
+        (flux.new.indexes ≡ trial_indexes (record { seed = seed; track = track; nominal = nominal }) ring.now.cells) }
     ensures succeeds { 4 * length ring.now.cells ≤ flux.old.spare_times → 4 ≤ flux.old.spare_indexes → IsOk result }
     ensures room { KeepsRoom flux.old flux.new }
 {
@@ -104,7 +110,10 @@ fn begin(
     requires fits { FitsRing hole.now }
     requires no_times { flux.old.times ≡ [] }
     requires no_indexes { flux.old.indexes ≡ [] }
-    ensures turned { IfOk result (λ head. HasTurned (record { seed = seed; track = track; nominal = nominal }) ring.now.cells 0 head flux.new.times flux.new.indexes) }
+    ensures turned { IfOk result
+        (λ head.
+        HasTurned (record { seed = seed; track = track; nominal = nominal }) ring.now.cells 0 head flux.new.times
+        flux.new.indexes) }
     ensures spare { OnOk result (flux.old.spare_times ≤ flux.new.spare_times + length ring.now.cells / 4) }
     ensures spare_indexes { OnOk result (flux.old.spare_indexes ≤ flux.new.spare_indexes + 1) }
     ensures succeeds { length ring.now.cells / 4 ≤ flux.old.spare_times → 1 ≤ flux.old.spare_indexes → IsOk result }
@@ -160,15 +169,19 @@ fn walk_to_index(
     requires few { part.number + (part.to - part.from) < MOST_CELLS }
     requires place { OnRing hole.now.ring part.from part.number }
     requires before { AreBefore head.old flux.old.times }
-    requires early { All (λ time. 1024 * (time + 1) ≤ reach head.old part.number + 1024 * (part.to - part.from)) flux.old.indexes }
-    ensures head { OnOk result (head.new ≡ passed_all head.old (ones_between ring.now.cells part.from part.to part.number)) }
+    requires early { All (λ time. 1024 * (time + 1) ≤ reach head.old part.number + 1024 * (part.to - part.from))
+        flux.old.indexes }
+    ensures head { OnOk result
+        (head.new ≡ passed_all head.old (ones_between ring.now.cells part.from part.to part.number)) }
     ensures times { OnOk result (flux.new.times ≡ flux.old.times
         ++ seen_times hole.now head.old (ones_between ring.now.cells part.from part.to part.number)) }
-    ensures indexes { OnOk result (flux.new.indexes ≡ flux.old.indexes ++ (reach head.new (part.number + (part.to - part.from)) / 1024) ∷ []) }
+    ensures indexes { OnOk result
+        (flux.new.indexes ≡ flux.old.indexes ++ (reach head.new (part.number + (part.to - part.from)) / 1024) ∷ []) }
     ensures sound { IsSound head.new }
     ensures later { OnOk result (head.new.cell < part.number + (part.to - part.from)) }
     ensures before { AreBefore head.new flux.new.times }
-    ensures early { OnOk result (All (λ time. 1024 * time ≤ reach head.new (part.number + (part.to - part.from))) flux.new.indexes) }
+    ensures early { OnOk result
+        (All (λ time. 1024 * time ≤ reach head.new (part.number + (part.to - part.from))) flux.new.indexes) }
     ensures room { KeepsRoom flux.old flux.new }
     ensures spare { OnOk result (flux.old.spare_times ≤ flux.new.spare_times + (part.to - part.from)) }
     ensures spare_indexes { OnOk result (flux.old.spare_indexes ≤ flux.new.spare_indexes + 1) }
@@ -198,7 +211,8 @@ fn walk(
     requires few { part.number + (part.to - part.from) ≤ MOST_CELLS }
     requires place { OnRing hole.now.ring part.from part.number }
     requires before { AreBefore head.old flux.old.times }
-    ensures head { OnOk result (head.new ≡ passed_all head.old (ones_between ring.now.cells part.from part.to part.number)) }
+    ensures head { OnOk result
+        (head.new ≡ passed_all head.old (ones_between ring.now.cells part.from part.to part.number)) }
     ensures times { OnOk result (flux.new.times ≡ flux.old.times
         ++ seen_times hole.now head.old (ones_between ring.now.cells part.from part.to part.number)) }
     ensures indexes { flux.new.indexes ≡ flux.old.indexes }

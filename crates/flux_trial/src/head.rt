@@ -2,7 +2,8 @@ ghost use Rattle.std.specs.Prelude.{◌≡◌, ◌<◌, ◌≤◌, ◌+◌, ◌-
 ghost use Rattle.flux_trial.specs.Drive.{displaced, drifted};
 ghost use Rattle.flux_trial.specs.inside.Heads.{IsSound, next_chance, passed, reach, started, time_at, MOST_CELLS};
 
-/// A drive that turns over a track, after one of the track's transitions. Periods, ways and places are in fine units of 1/1024 tick.
+/// A drive that turns over a track, after one of the track's transitions. Periods, ways and places are
+/// in fine units of 1/1024 tick.
 #[derive(Clone, Copy, Drop)]
 pub(crate) struct Head {
     /// The local period at the first transition.

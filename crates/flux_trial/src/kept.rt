@@ -11,8 +11,8 @@ use std::marker::Model;
 /// How many bytes are kept: as many as a stream may have, and more than any image has.
 const ROOM: usize = 4_194_304;
 
-/// A sink that keeps its bytes in memory, which is taken at the start; contracts see the bytes. A full one counts as failed as
-/// often as is counted.
+/// A sink that keeps its bytes in memory, which is taken at the start; contracts see the bytes. A full one counts as
+/// failed as often as is counted.
 #[derive(Drop)]
 pub(crate) struct Kept {
     bytes: Vec<u8>,

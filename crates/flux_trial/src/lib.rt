@@ -1,5 +1,5 @@
-//! A trial of the whole program from a number: an image, a drive that turns over its tracks within the bounds of disturbance
-//! and may lose a stretch of each, and what decoding the streams of that drive comes to.
+//! A trial of the whole program from a number: an image, a drive that turns over its tracks within the bounds of
+//! disturbance and may lose a stretch of each, and what decoding the streams of that drive comes to.
 #![tactic(auto)]
 
 mod flux;

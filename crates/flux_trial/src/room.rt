@@ -29,7 +29,8 @@ impl Model for TrialRoom {
 
     ghost view = { λ a. record { format = a.format; used = a.used } };
 
-    ghost invariant = { λ a. a.used ≡ false → (a.source.format ≡ a.format) × (a.disk ≡ fresh a.format) × (a.image ≡ []) };
+    ghost invariant = { λ a.
+        a.used ≡ false → (a.source.format ≡ a.format) × (a.disk ≡ fresh a.format) × (a.image ≡ []) };
 }
 
 impl TrialRoom {

@@ -48,9 +48,11 @@ impl Model for TrialSource {
 
     ghost Value = { SourceState };
 
-    ghost view = { λ s. record { format = s.format; at_hand = drop s.given s.stream; later = streams_from s.format s.seed s.next } };
+    ghost view = { λ s.
+        record { format = s.format; at_hand = drop s.given s.stream; later = streams_from s.format s.seed s.next } };
 
-    ghost invariant = { λ s. HasTrialRoom s.format s.ring s.flux × IsGiving s.format s.seed s.image.items s.next s.given s.stream };
+    ghost invariant = { λ s.
+        HasTrialRoom s.format s.ring s.flux × IsGiving s.format s.seed s.image.items s.next s.given s.stream };
 }
 
 impl TrialSource {

@@ -5,14 +5,16 @@ ghost use Rattle.flux_trial.specs.Tracks.{IsTrialLine};
 
 use crate::room::TrialRoom;
 use flux_base::{CountingSink, Failed, Sink};
-use flux_engine::{decode_disk, images_have_rings, parts_fill_images};
+use flux_engine::{decode_planned, decoding_plan, images_have_rings};
 use flux_writer::written_law;
 use kryo_stream::{growth_law, joined_law};
+use law_captured_plans::planned_parts_fit_images;
 use sector_images::{sectors_lie_in_images, track_count, tracks_keep_bounds};
 use sector_report::{trial_line, write_line};
 
-/// Runs the trial of a number: makes its image and for each track the stream of its drive, decodes these, and writes the line with
-/// the totals and the sum of the decoded image's bytes. No answer is for want of memory, and a room serves once.
+/// Runs the trial of a number: makes its image and for each track the stream of its drive, decodes these,
+/// and writes the line with the totals and the sum of the decoded image's bytes. No answer is for want of
+/// memory, and a room serves once.
 ///
 /// `Failed` comes only where the sink's count of faults rose. Then a shorter part of the line was written.
 pub fn run_trial<W: Sink>(room: &mut TrialRoom, seed: u32, sink: &mut W) -> Result<(), Failed>
@@ -26,11 +28,12 @@ pub fn run_trial<W: Sink>(room: &mut TrialRoom, seed: u32, sink: &mut W) -> Resu
     tracks_keep_bounds();
     sectors_lie_in_images();
     images_have_rings();
-    parts_fill_images();
+    planned_parts_fit_images();
     room.used = true;
     room.source.start(seed);
     let mut notes = CountingSink::new();
-    match decode_disk(
+    match decode_planned(
+        decoding_plan(),
         &mut room.disk,
         &mut room.source,
         &mut room.image,

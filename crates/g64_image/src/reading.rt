@@ -24,7 +24,7 @@ use flux_engine::{PartFault, add_totals, fill, no_totals, write_part};
 use sector_images::{Format, track_count, track_id, tracks_keep_bounds};
 use sector_report::{Naming, Totals, total_line, write_line};
 
-/// Reads a file to its end, or to one byte more than 4194304, and then writes its tracks in order as `decode_disk` does:
+/// Reads a file to its end, or to one byte more than 4194304, and then writes its tracks in order as `decode_planned` does:
 /// of each the track's part of the image to `image` and its lines to `notes`, and at last the total line. No answer is for
 /// want of memory.
 ///

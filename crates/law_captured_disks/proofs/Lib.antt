@@ -1,4 +1,2 @@
-pub mod Sectors
-pub mod Disks
 pub mod Others
 pub mod Writing

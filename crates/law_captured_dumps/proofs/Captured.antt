@@ -22,6 +22,7 @@ use Rattle.frame_law.specs.declared.reading.Reading.TheVariants.{Good as GoodFra
 use Rattle.law_captured_disks.specs.Headline.{IsBadOrMissing, IsSectorOf}
 use Rattle.flux_engine.specs.lemmas.NoneAgreed.{none_agreed}
 use Rattle.law_captured_disks.specs.lemmas.NoneGood.{no_goods}
+use Rattle.law_captured_plans.specs.Said.{IsRightlyGood}
 use Rattle.law_captured_plans.specs.Headline.{IsOwnOrContradictory}
 use Rattle.sector_images.specs.Formats.{row}
 use Rattle.sector_images.specs.declared.format.Format.{Format}
@@ -34,7 +35,7 @@ use Rattle.turn_merge.specs.declared.verdict.Verdict.{Verdict}
 use Rattle.turn_merge.specs.declared.verdict.Verdict.TheVariants.{Bad, Contradictory, Good, Missing}
 use Rattle.law_captured_dumps.specs.Headline.{CapturedDumpsAreNeverWrong, IsReadRightly, IsReadWell, SteadyDumpsAreReadWell}
 use Rattle.law_captured_dumps.specs.Inputs.{HasFailed, HasWhole, IsSteadyOrPassed}
-use Rattle.law_read_dumps.specs.Said.{AreOfFiles, EachIsSaid, IsRightlyGood, IsSaid, IsSaidRightly, SaidIsRight, StreamsAreOfFiles, came_in}
+use Rattle.law_read_dumps.specs.Said.{AreOfFiles, EachIsSaid, IsSaid, IsSaidRightly, SaidIsRight, StreamsAreOfFiles, came_in}
 use Rattle.law_captured_dumps.proofs.Owning.{HoldsOwn, Laws as OwnLaws, holds, mine, stands, tracks_written}
 
 -- what the crates below promise, and the laws before
@@ -108,7 +109,7 @@ module _ (laws : Laws) (disk : DumpDisk) (came : Streams) (files : List File) (o
     never_lost = not_lost n sector said dump Following there.0 (mine laws.own disk came files of image is n sector) low used there.1
 
     -- good means its own bytes
-    good_is_own : (first : Place) → IsRightlyGood disk came o n sector first → held n sector ≡ own n sector
+    good_is_own : (first : Place) → IsRightlyGood plan format streams o.image n sector first → held n sector ≡ own n sector
     good_is_own first right =
         right.in_image ∙ sym (right.agreed dump Following there.0 (mine laws.own disk came files of image is n sector) low used there.1)
         ∙ (tracks_written laws.own disk came files of image is).content n sector one
@@ -131,7 +132,7 @@ module _ (laws : Laws) (disk : DumpDisk) (came : Streams) (files : List File) (o
 
       well_by : (v : Verdict) → verdict (joined said.captures) sector ≡ v → IsSaidRightly disk came o n sector v → IsReadWell disk came image o n sector
       well_by (Good g b first) same right =
-          record { said = said; good = g; bad = b; first = first; is = same; own = good_is_own first right }
+          record { good = record { said = said; good = g; bad = b; first = first; is = same }; own = good_is_own first right }
       well_by (Contradictory g b first other) same right =
           let a = right.named in
           let c = right.contradicted in

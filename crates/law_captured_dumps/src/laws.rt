@@ -9,9 +9,10 @@ use law_decoded_rings::own_sectors_are_right;
 use law_read_dumps::dumps_say_each_sector;
 use sector_images::sectors_lie_in_images;
 
-/// A sector that one dump has whole, since its file captures the track, or captures it in part with the sector between two erased
-/// stretches, and did not fail, is never wrong unsaid, whatever the other files are: it is good with its own bytes, or contradictory. Where all files of the
-/// track capture it, whole or in part, or are passed over, and the drives kept their speed, it is good with its own bytes.
+/// A sector that one dump has whole, since its file captures the track, or captures it in part with the sector between
+/// two erased stretches, and did not fail, is never wrong unsaid, whatever the other files are: it is good with its own
+/// bytes, or contradictory. Where all files of the track capture it, whole or in part, or are passed over, and the
+/// drives kept their speed, it is good with its own bytes.
 pub fn captured_dumps_are_read()
     ensures never_wrong { CapturedDumpsAreNeverWrong }
     ensures well { SteadyDumpsAreReadWell }

@@ -81,3 +81,15 @@ images_size size (t ∷ ts) (part ∷ parts) same sizes =
     let rest = images_size size ts parts (omega (arith, same)) (λ k below. sizes (suc k) (omega (arith, below))) in
     let both = length-append part.image (images parts) in
     omega (arith, here, rest, both, sum_by-cons size t ts)
+
+-- that of the first tracks has no more
+pub images_few : (size : TrackId → ℕ) (ts : List TrackId) (parts : List TrackPart) → length parts ≤ length ts
+    → ((n : ℕ) → n < length parts → length (part_at parts n).image ≡ size (nth_track ts n))
+    → length (images parts) ≤ sum_by size ts
+images_few size ts [] few sizes = omega arith
+images_few size [] (part ∷ parts) few sizes = absurd (omega (arith, few))
+images_few size (t ∷ ts) (part ∷ parts) few sizes =
+    let here : length part.image ≡ size t = sizes 0 (omega arith) in
+    let rest = images_few size ts parts (omega (arith, few)) (λ k below. sizes (suc k) (omega (arith, below))) in
+    let both = length-append part.image (images parts) in
+    omega (arith, here, rest, both, sum_by-cons size t ts)

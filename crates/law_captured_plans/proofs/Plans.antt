@@ -1,7 +1,8 @@
 -- Captured disks are read by a plan.
-use Rattle.std.specs.Prelude.{◌≡◌, ◌≤◌, ◌<◌, ◌⊎◌, ℕ, ◌+◌, ◌-◌, ◌*◌, Bool, true, List, [], ◌∷◌, length, map, replicate, slice_index, unwrap_or, Option, None, refl}
+use Rattle.std.specs.Prelude.{◌≡◌, ◌≤◌, ◌<◌, ◌⊎◌, ℕ, ◌+◌, ◌-◌, ◌*◌, Bool, true, List, [], ◌∷◌, drop, length, map, replicate, slice_index, unwrap_or, Option, None, refl}
 use Rattle.std.proofs.Common.{ap, sym, subst, ◌∙◌, arith, append-nil, inl, inr}
 use Rattle.disk_recordings.specs.Laws.{RingsHaveCells}
+use Rattle.disk_recordings.specs.Members.{sector_at}
 use Rattle.frame_law.specs.Controller.{START_ZEROS}
 use Rattle.kryo_stream.specs.Growth.{StreamsStay}
 use Rattle.kryo_stream.specs.Joined.{PaddingIsPassed}
@@ -17,7 +18,7 @@ use Rattle.turn_merge.specs.declared.verdict.Verdict.TheVariants.{Good, Contradi
 use Rattle.turn_merge.specs.declared.clock.Clock.{Clock}
 use Rattle.turn_merge.specs.declared.clock.Clock.TheVariants.{Following, Held}
 use Rattle.law_decoded_rings.specs.Pieces.{RingPiece, cells_of_ring_pieces}
-use Rattle.law_decoded_rings.specs.Verdicts.{AreReadingsOf, IsGoodWith, IsGoodWithOrLost, LiesInOnePiece, PiecesAreRightWithin, TwoRingsHaveSectors, VerdictsAreRight}
+use Rattle.law_decoded_rings.specs.Verdicts.{AreReadingsOf, IsGoodWith, IsGoodWithOrLost, LiesInOnePiece, PiecesAreRightWithin, StandsInOnePiece, TwoRingsHaveSectors, VerdictsAreRight}
 use Rattle.flux_engine.specs.Captures.{Capture, CapturesAreRecovered, ErasedCapture, ErasedCapturesAreRecovered, SteadyCapturesAreRecovered, SteadyErasedCapturesAreRecovered}
 use Rattle.flux_engine.specs.Captured.{AreReadingsBy, IsUsed}
 use Rattle.flux_engine.specs.declared.plan.Clocks.{Clocks}
@@ -42,7 +43,7 @@ use Rattle.law_captured_disks.specs.lemmas.Images.{images-same}
 use Rattle.law_captured_disks.specs.lemmas.Readings.{are_readings_by}
 use Rattle.law_captured_disks.specs.lemmas.Streams.{IsStreamNumber}
 use Rattle.law_captured_disks.specs.lemmas.Totals.{all_counted, totals_good}
-use Rattle.law_captured_plans.specs.Headline.{CapturedPlansAreNeverWrong, CapturedPlansAreRead, ErasedPlansAreRead, IsKeptBy, IsLostBy, IsNeverWrong, IsOwnOrContradictory, IsReadInPart, IsReadRightly, IsReadWhole}
+use Rattle.law_captured_plans.specs.Headline.{CapturedPlansAreNeverWrong, CapturedPlansAreRead, ErasedPlansAreRead, ErasedPlansStandInOnePiece, IsKeptBy, IsLostBy, IsNeverWrong, IsOwnOrContradictory, IsReadInPart, IsReadRightly, IsReadWhole, StandInOnePiece}
 use Rattle.law_captured_plans.specs.Inputs.{IsCapturedSet, IsErasedSet, IsSteadyErasedSet, IsSteadySet, LiesInACapture}
 use Rattle.law_captured_plans.specs.Said.{IsSaid, SaysBy, SectorsAreSaid}
 use Rattle.law_captured_plans.proofs.Places.{images_size}
@@ -204,7 +205,7 @@ module _ (laws : Laws) (plan : Plan) (format : Format) (image x : List ℕ) (is 
       size : length o.image ≡ (row format).image_size
       size =
           ap (λ (d : Planned). length d.image) read.is
-          ∙ images_size (bytes_of format) (tracks format) read.parts many (part_size laws.sectors plan format streams o read)
+          ∙ images_size (bytes_of format) (tracks format) read.parts many (λ n low. part_size laws.sectors plan format streams n (part_at read.parts n) (read.each n low))
           ∙ laws.filled format
 
       good_with : (v : Verdict) (held : Option (List ℕ)) (bytes : List ℕ) → IsGoodWith v held bytes → is_good v ≡ true
@@ -347,7 +348,7 @@ module _ (laws : Laws) (plan : Plan) (format : Format) (image x : List ℕ) (is 
     }
 
   -- a captured set with erased stretches
-  module _ (set : IsErasedSet format plan.captures image x) (steady : IsUsed plan.clocks Held → IsSteadyErasedSet format plan.captures image x set) where
+  module _ (set : IsErasedSet format plan.captures image x) where
     abbrev capture_of : (n q : ℕ) → n < length (tracks format) → q < plan.captures
         → ErasedCapture (set.stream (n * plan.captures + q)) (ring_of format image n) (nominal_of format n)
     capture_of n q known low = set.captured n q known low
@@ -362,38 +363,55 @@ module _ (laws : Laws) (plan : Plan) (format : Format) (image x : List ℕ) (is 
         no_stop laws.stay laws.passed plan format x set.stream set.joined
         (λ n q known low. (let here = set.captured n q known low in (here.no_fault, here.whole)))
 
-    erased_cells : (n q : ℕ) (known : n < length (tracks format)) (low : q < plan.captures) (clock : Clock) → IsUsed plan.clocks clock
-        → AreOfPieces n q clock (ring_piece (capture_of n q known low).first) (map ring_piece (capture_of n q known low).later)
-    erased_cells n q known low Following used =
+    abbrev first_of : (n q : ℕ) → n < length (tracks format) → q < plan.captures → RingPiece
+    first_of n q known low = ring_piece (capture_of n q known low).first
+
+    abbrev later_of : (n q : ℕ) → n < length (tracks format) → q < plan.captures → List RingPiece
+    later_of n q known low = map ring_piece (capture_of n q known low).later
+
+    erased_following : (n q : ℕ) (known : n < length (tracks format)) (low : q < plan.captures) → AreOfPieces n q Following (first_of n q known low) (later_of n q known low)
+    erased_following n q known low =
         let here = capture_of n q known low in
         cells_are n q (set.stream (n * plan.captures + q)) Following (erased_stream n q known low)
         ∙ laws.recovered_erased format (track_at format n) (set.stream (n * plan.captures + q)) (ring_of format image n) (written.known n known) (written.ring n known) here
         ∙ cells-same (ring_of format image n) here.first here.later
-    erased_cells n q known low Held used =
-        let here = capture_of n q known low in
-        cells_are n q (set.stream (n * plan.captures + q)) Held (erased_stream n q known low)
-        ∙ laws.steady_erased Held format (track_at format n) (set.stream (n * plan.captures + q)) (ring_of format image n) (written.known n known) (written.ring n known) here
-        (steady used n q known low)
-        ∙ cells-same (ring_of format image n) here.first here.later
 
-    module _ (o : Planned) (read : IsPlanned plan (part_by plan.naming) format streams o) where
-      here_said : (n sector : ℕ) → IsSectorOf format n sector → IsSaid plan format streams o n sector
-      here_said = said o read (erased_stops o read)
+    pub stand_in_one_piece : StandInOnePiece plan format image x set
+    stand_in_one_piece n q known low sector place bytes stands =
+        let pieces = (laws.pieces Strict format image n is known (first_of n q known low) (later_of n q known low)).0 in
+        let cells = erased_following n q known low in
+        subst (λ (cs : List Bool). StandsInOnePiece (λ here. sector_at format (track_at format n) here sector bytes) (first_of n q known low ∷ later_of n q known low) cs place) (sym cells)
+        (pieces.sector_of_one place sector bytes (subst (λ (cs : List Bool). sector_at format (track_at format n) (drop place cs) sector bytes) cells stands))
 
-      pub is_read_in_part : IsReadInPart plan.naming format image o (LiesInACapture format plan.captures image x set)
-      is_read_in_part = record {
-        no_stop = erased_stops o read;
-        in_one_piece = λ n sector one whole.
-            let here = here_said n sector one in
-            kept o read (erased_stops o read) n sector one here
-            (good n whole.known (λ q low. ring_piece (capture_of n q whole.known low).first) (λ q low. map ring_piece (capture_of n q whole.known low).later)
-            (λ q low. erased_cells n q whole.known low) here.captures here.many here.each sector one whole.capture whole.low Following (following_used plan.clocks) whole.lies);
-        each = λ n sector one.
-            let here = here_said n sector one in
-            either o read (erased_stops o read) n sector one here
-            (or_lost n one.track (λ q low. ring_piece (capture_of n q one.track low).first) (λ q low. map ring_piece (capture_of n q one.track low).later)
-            (λ q low. erased_cells n q one.track low) here.captures here.many here.each sector one);
-      }
+    module _ (steady : IsUsed plan.clocks Held → IsSteadyErasedSet format plan.captures image x set) where
+      erased_cells : (n q : ℕ) (known : n < length (tracks format)) (low : q < plan.captures) (clock : Clock) → IsUsed plan.clocks clock
+          → AreOfPieces n q clock (first_of n q known low) (later_of n q known low)
+      erased_cells n q known low Following used = erased_following n q known low
+      erased_cells n q known low Held used =
+          let here = capture_of n q known low in
+          cells_are n q (set.stream (n * plan.captures + q)) Held (erased_stream n q known low)
+          ∙ laws.steady_erased Held format (track_at format n) (set.stream (n * plan.captures + q)) (ring_of format image n) (written.known n known) (written.ring n known) here
+          (steady used n q known low)
+          ∙ cells-same (ring_of format image n) here.first here.later
+
+      module _ (o : Planned) (read : IsPlanned plan (part_by plan.naming) format streams o) where
+        here_said : (n sector : ℕ) → IsSectorOf format n sector → IsSaid plan format streams o n sector
+        here_said = said o read (erased_stops o read)
+
+        pub is_read_in_part : IsReadInPart plan.naming format image o (LiesInACapture format plan.captures image x set)
+        is_read_in_part = record {
+          no_stop = erased_stops o read;
+          in_one_piece = λ n sector one whole.
+              let here = here_said n sector one in
+              kept o read (erased_stops o read) n sector one here
+              (good n whole.known (λ q low. first_of n q whole.known low) (λ q low. later_of n q whole.known low)
+              (λ q low. erased_cells n q whole.known low) here.captures here.many here.each sector one whole.capture whole.low Following (following_used plan.clocks) whole.lies);
+          each = λ n sector one.
+              let here = here_said n sector one in
+              either o read (erased_stops o read) n sector one here
+              (or_lost n one.track (λ q low. first_of n q one.track low) (λ q low. later_of n q one.track low)
+              (λ q low. erased_cells n q one.track low) here.captures here.many here.each sector one);
+        }
 
 pub captured_plans_are_read : Laws → CapturedPlansAreRead
 captured_plans_are_read laws plan format image x o some is set steady read =
@@ -401,6 +419,9 @@ captured_plans_are_read laws plan format image x o some is set steady read =
 
 pub erased_plans_are_read : Laws → ErasedPlansAreRead
 erased_plans_are_read laws plan format image x o is set steady read = is_read_in_part laws plan format image x is set steady o read
+
+pub erased_plans_stand_in_one_piece : Laws → ErasedPlansStandInOnePiece
+erased_plans_stand_in_one_piece laws plan format image x is set = stand_in_one_piece laws plan format image x is set
 
 pub captured_plans_are_never_wrong : Laws → CapturedPlansAreNeverWrong
 captured_plans_are_never_wrong laws plan format image x o some is set read = is_never_wrong laws plan format image x is set some o read

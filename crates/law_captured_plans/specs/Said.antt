@@ -2,12 +2,14 @@
 use Rattle.std.specs.Prelude.{◌≡◌, ◌≤◌, ◌<◌, ℕ, ◌+◌, List, length, None}
 use Rattle.flux_base.specs.declared.track.TrackId.{TrackId}
 use Rattle.kryo_stream.specs.Protocol.{LIMIT}
-use Rattle.sector_images.specs.Places.{IsSector}
+use Rattle.sector_images.specs.Formats.{row}
+use Rattle.sector_images.specs.Places.{IsSector, tracks}
 use Rattle.sector_images.specs.declared.format.Format.{Format}
 use Rattle.sector_report.specs.LineLaws.{LineFits, line_ends}
 use Rattle.sector_report.specs.Lines.{named_text}
 use Rattle.sector_report.specs.declared.naming.Naming.{Naming}
-use Rattle.sector_report.specs.declared.naming.Naming.TheVariants.{ByCapture, ByCaptureAndClock, ByClock, Unnamed}
+use Rattle.sector_report.specs.declared.naming.Naming.TheVariants.{ByCapture, ByCaptureAndClock}
+use Rattle.sector_report.specs.declared.naming.Naming.TheVariants.{ByClock, Unnamed}
 use Rattle.turn_merge.specs.Readings.{NotedReading, verdict}
 use Rattle.turn_merge.specs.declared.clock.Clock.{Clock}
 use Rattle.turn_merge.specs.declared.verdict.Place.{Place}
@@ -15,40 +17,58 @@ use Rattle.turn_merge.specs.declared.verdict.Verdict.{Verdict}
 use Rattle.turn_merge.specs.declared.verdict.Verdict.TheVariants.{Good}
 use Rattle.flux_engine.specs.Captured.{IsUsed}
 use Rattle.flux_engine.specs.DiskLaws.{HasLine, bytes_at, line_number, sectors_before, total_lines}
+use Rattle.flux_engine.specs.Disks.{images}
 use Rattle.flux_engine.specs.PlanLaws.{IsNamedIn, StandsIn}
-use Rattle.flux_engine.specs.Plans.{AreCaptures, IsPlanned, Planned, Streams, joined, planned_count, streams_in}
+use Rattle.flux_engine.specs.Plans.{AreCaptures, ArePlannedParts, IsPlanned, Planned, Streams}
+use Rattle.flux_engine.specs.Plans.{joined, planned_count, streams_in}
 use Rattle.flux_engine.specs.Recordings.{sectors_of, track_at}
-use Rattle.flux_engine.specs.Tracks.{image_bytes, part_by}
+use Rattle.flux_engine.specs.Tracks.{TrackPart, image_bytes, part_by}
 use Rattle.flux_engine.specs.declared.plan.Clocks.{Clocks}
 use Rattle.flux_engine.specs.declared.plan.Clocks.TheVariants.{FollowingAlone}
 use Rattle.flux_engine.specs.declared.plan.Plan.{Plan}
 use Rattle.flux_engine.specs.declared.plan.Rule.TheVariants.{Strict}
 
--- the report's line of a sector of track number n, after those of all sectors before it, names this verdict
+-- the report's line of a sector of track number n, after those of all sectors
+-- before it, names this verdict
 abbrev pub SaysBy : Naming → Format → Planned → (n sector : ℕ) → Verdict → Type 0
-SaysBy naming format o n sector outcome = HasLine o.notes (named_text naming (track_at format n) sector outcome) (line_number format n sector)
+SaysBy naming format o n sector outcome = HasLine o.notes
+    (named_text naming (track_at format n) sector outcome) (line_number format n sector)
 
--- The report has the sector's line, with the verdict over all that was read of its track. At its place in the image stand the bytes that
--- all good readings hold, where no two differ, and else zeros.
-pub record IsSaid (plan : Plan) (format : Format) (streams : Streams) (o : Planned) (n sector : ℕ) : Type 0 where
+-- The report has the sector's line, with the verdict over all that was read of its
+-- track. At its place in the image stand the bytes that all good readings hold, where
+-- no two differ, and else zeros.
+pub record IsSaid (plan : Plan) (format : Format) (streams : Streams) (o : Planned)
+    (n sector : ℕ) : Type 0 where
   pub captures : List (List NotedReading)
   pub many : length captures ≡ plan.captures
   pub each : AreCaptures plan format streams n captures
   pub line : SaysBy plan.naming format o n sector (verdict (joined captures) sector)
-  pub held : bytes_at format o.image (track_at format n) sector ≡ image_bytes (sectors_of format (track_at format n)) (joined captures) sector
+  pub held : bytes_at format o.image (track_at format n) sector
+      ≡ image_bytes (sectors_of format (track_at format n)) (joined captures) sector
 
 -- so it is with each sector of the tracks that were read
 abbrev pub SectorsAreSaid : Type 0
-SectorsAreSaid = (plan : Plan) (format : Format) (streams : Streams) (o : Planned) → IsPlanned plan (part_by plan.naming) format streams o
+SectorsAreSaid = (plan : Plan) (format : Format) (streams : Streams) (o : Planned)
+    → IsPlanned plan (part_by plan.naming) format streams o
     → (n sector : ℕ) → n < planned_count format o.stop → IsSector format (track_at format n) sector
     → IsSaid plan format streams o n sector
 
--- the report has a line for each sector of the tracks that were read, and the total line; it has no other
+-- the parts of any first tracks have no more bytes than the format's image
+abbrev pub PlannedPartsFitImages : Type 0
+PlannedPartsFitImages = (plan : Plan) (format : Format) (streams : Streams) (parts : List TrackPart)
+    → ArePlannedParts plan (part_by plan.naming) format streams parts
+    → length parts ≤ length (tracks format)
+    → length (images parts) ≤ (row format).image_size
+
+-- the report has a line for each sector of the tracks that were read, and
+-- the total line; it has no other
 abbrev pub PlannedReportsHaveNoOtherLines : Type 0
-PlannedReportsHaveNoOtherLines = (plan : Plan) (format : Format) (streams : Streams) (o : Planned) → IsPlanned plan (part_by plan.naming) format streams o
+PlannedReportsHaveNoOtherLines = (plan : Plan) (format : Format) (streams : Streams) (o : Planned)
+    → IsPlanned plan (part_by plan.naming) format streams o
     → line_ends o.notes ≡ sectors_before format (planned_count format o.stop) + total_lines o.stop
 
--- Lines name all that tells a plan's sources apart: the capture, where there are several of a track, and the clock, where both are used.
+-- Lines name all that tells a plan's sources apart: the capture, where there are several of a
+-- track, and the clock, where both are used.
 abbrev pub TellsSources : Naming → (captures : ℕ) → Clocks → Type 0
 TellsSources Unnamed captures clocks = (captures ≤ 1) × (clocks ≡ FollowingAlone)
 TellsSources ByCapture captures clocks = clocks ≡ FollowingAlone
@@ -57,15 +77,18 @@ TellsSources ByCaptureAndClock captures clocks = Unit {0}
 
 -- the streams that are read have no more transitions and index times than a stream may have blocks
 abbrev pub AreShort : Streams → Type 0
-AreShort streams = (n q : ℕ) → (streams n q).fault ≡ None → (length (streams n q).times ≤ LIMIT) × (length (streams n q).indexes ≤ LIMIT)
+AreShort streams = (n q : ℕ) → (streams n q).fault ≡ None
+    → (length (streams n q).times ≤ LIMIT) × (length (streams n q).indexes ≤ LIMIT)
 
 -- as those of an input
 abbrev pub InputsAreShort : Type 0
 InputsAreShort = (plan : Plan) (x : List ℕ) → AreShort (streams_in plan x)
 
--- Where a sector's line, of whatever numbers that fit in it, is a line of the report, it is the line of that sector of a track that was
--- read, and its verdict, with the sources and the places that it names, is the one over all that was read of the track.
-pub record IsToldBy (plan : Plan) (format : Format) (streams : Streams) (o : Planned) (track : TrackId) (sector : ℕ) (outcome : Verdict) (number : ℕ) : Type 0 where
+-- Where a sector's line, of whatever numbers that fit in it, is a line of the report, it is the
+-- line of that sector of a track that was read, and its verdict, with the sources and the places
+-- that it names, is the one over all that was read of the track.
+pub record IsToldBy (plan : Plan) (format : Format) (streams : Streams) (o : Planned)
+    (track : TrackId) (sector : ℕ) (outcome : Verdict) (number : ℕ) : Type 0 where
   pub n : ℕ
   pub track_is : track ≡ track_at format n
   pub low : n < planned_count format o.stop
@@ -75,27 +98,40 @@ pub record IsToldBy (plan : Plan) (format : Format) (streams : Streams) (o : Pla
   pub number_is : number ≡ line_number format n sector
 
 abbrev pub LinesTellInPlans : Type 0
-LinesTellInPlans = (plan : Plan) (format : Format) (streams : Streams) (o : Planned) → plan.captures ≤ 16 → plan.rule ≡ Strict → TellsSources plan.naming plan.captures plan.clocks
+LinesTellInPlans = (plan : Plan) (format : Format) (streams : Streams) (o : Planned)
+    → plan.captures ≤ 16 → plan.rule ≡ Strict → TellsSources plan.naming plan.captures plan.clocks
     → AreShort streams → IsPlanned plan (part_by plan.naming) format streams o
-    → (track : TrackId) (sector : ℕ) (outcome : Verdict) (number : ℕ) → LineFits plan.naming track sector outcome
-    → HasLine o.notes (named_text plan.naming track sector outcome) number → IsToldBy plan format streams o track sector outcome number
+    → (track : TrackId) (sector : ℕ) (outcome : Verdict) (number : ℕ)
+    → LineFits plan.naming track sector outcome
+    → HasLine o.notes (named_text plan.naming track sector outcome) number
+    → IsToldBy plan format streams o track sector outcome number
 
--- So, by the strict rule, a line that says good names a capture, a clock of the plan, a turn and a place whose cells hold the sector, with its sync, header,
--- data and check values; the image has these bytes at the sector's place; and each place of the track whose cells hold it, of any
--- capture and by any clock of the plan, holds the same bytes.
-pub record IsToldRightly (plan : Plan) (format : Format) (streams : Streams) (o : Planned) (track : TrackId) (sector : ℕ) (first : Place) : Type 0 where
-  pub n : ℕ
-  pub track_is : track ≡ track_at format n
+-- A sector of track number n is rightly called good, and its first good reading is at this place:
+-- it is a place of a capture, by a clock of the plan, in its turn there, whose cells hold the
+-- sector, with its sync, header, data and check values, as many bytes as the format's sectors have;
+-- the image has these bytes at the sector's place; and each place of the track whose cells hold it,
+-- of any capture and by any clock of the plan, holds the same bytes.
+pub record IsRightlyGood (plan : Plan) (format : Format) (streams : Streams) (image : List ℕ)
+    (n sector : ℕ) (first : Place) : Type 0 where
   pub bytes : List ℕ
+  pub size : length bytes ≡ (row format).sector_size
   pub named : IsNamedIn plan format streams n first sector bytes
-  pub in_image : bytes_at format o.image track sector ≡ bytes
-  pub agreed : (q : ℕ) (clock : Clock) (place : ℕ) (others : List ℕ) → q < plan.captures → IsUsed plan.clocks clock
+  pub in_image : bytes_at format image (track_at format n) sector ≡ bytes
+  pub agreed : (q : ℕ) (clock : Clock) (place : ℕ) (others : List ℕ) → q < plan.captures
+      → IsUsed plan.clocks clock
       → StandsIn plan.rule format streams n q clock place sector others → others ≡ bytes
 
+-- So it is, by the strict rule, with each line that says good: its track is one of the format's.
 abbrev pub AreRightLines : Plan → Format → Streams → Planned → Type 0
-AreRightLines plan format streams o = (track : TrackId) (sector good bad : ℕ) (first : Place) (number : ℕ) → LineFits plan.naming track sector (Good good bad first)
-    → HasLine o.notes (named_text plan.naming track sector (Good good bad first)) number → IsToldRightly plan format streams o track sector first
+AreRightLines plan format streams o =
+    (track : TrackId) (sector good bad : ℕ) (first : Place) (number : ℕ)
+    → LineFits plan.naming track sector (Good good bad first)
+    → HasLine o.notes (named_text plan.naming track sector (Good good bad first)) number
+    → (n : ℕ) × (track ≡ track_at format n)
+    × IsRightlyGood plan format streams o.image n sector first
 
 abbrev pub GoodLinesAreRight : Type 0
-GoodLinesAreRight = (plan : Plan) (format : Format) (streams : Streams) (o : Planned) → plan.captures ≤ 16 → plan.rule ≡ Strict → TellsSources plan.naming plan.captures plan.clocks
-    → AreShort streams → IsPlanned plan (part_by plan.naming) format streams o → AreRightLines plan format streams o
+GoodLinesAreRight = (plan : Plan) (format : Format) (streams : Streams) (o : Planned)
+    → plan.captures ≤ 16 → plan.rule ≡ Strict → TellsSources plan.naming plan.captures plan.clocks
+    → AreShort streams → IsPlanned plan (part_by plan.naming) format streams o
+    → AreRightLines plan format streams o

@@ -10,13 +10,13 @@ use Rattle.flux_base.specs.declared.track.TrackId.{TrackId}
 use Rattle.flux_engine.specs.Captured.{IsUsed}
 use Rattle.flux_engine.specs.DiskLaws.{HasLine, bytes_at}
 use Rattle.flux_engine.specs.LoopProgress.{streams_over}
-use Rattle.flux_engine.specs.PlanLaws.{IsGoodTooOrContradicted, IsNamedIn, IsRightlyContradictoryIn}
-use Rattle.flux_engine.specs.PlanLaws.{StandsIn, cells_in}
+use Rattle.flux_engine.specs.PlanLaws.{IsGoodTooOrContradicted, IsRightlyContradictoryIn, cells_in}
 use Rattle.flux_engine.specs.Plans.{AreCaptures, PartOf, Seen, Streams, joined}
 use Rattle.flux_engine.specs.Recordings.{sectors_of, track_at}
 use Rattle.flux_engine.specs.Tracks.{Found, TrackPart, image_bytes, readings_in}
 use Rattle.frame_law.specs.Readings.{AreReadings}
 use Rattle.law_captured_disks.specs.Headline.{IsSectorOf}
+use Rattle.law_captured_plans.specs.Said.{IsRightlyGood}
 use Rattle.sector_images.specs.Places.{tracks}
 use Rattle.sector_report.specs.Lines.{named_text}
 use Rattle.sector_report.specs.declared.naming.Naming.TheVariants.{ByCaptureAndClock}
@@ -101,23 +101,13 @@ EachIsSaid =
     (disk : DumpDisk) (told : Option (List File)) (o : DumpsRead) (is : IsDumpsRead disk told o)
     → (n sector : ℕ) → IsSectorOf disk.format n sector → IsSaid disk (came_in is) o n sector
 
--- A sector that is said to be good: the stream of the dump that the line names has, by the clock
--- that it names, the header and the data with these bytes at the place that it names; the image has
--- them; and no place of any dump and clock holds others.
-pub record IsRightlyGood (disk : DumpDisk) (came : Streams) (o : DumpsRead) (n sector : ℕ)
-    (first : Place) : Type 0 where
-  pub bytes : List ℕ
-  pub named : IsNamedIn (plan_of disk) disk.format came n first sector bytes
-  pub in_image : bytes_at disk.format o.image (track_at disk.format n) sector ≡ bytes
-  pub agreed : (q : ℕ) (clock : Clock) (place : ℕ) (others : List ℕ) → q < length disk.dumps
-      → IsUsed (plan_of disk).clocks clock
-      → StandsIn (plan_of disk).rule disk.format came n q clock place sector others → others ≡ bytes
-
--- what the sector's line says is right: where it says good; and where it says contradictory, both
--- places that it names hold the sector, with other bytes
+-- what the sector's line says is right: where it says good, of the dump, the clock and
+-- the place that it names; and where it says contradictory, both places that it names
+-- hold the sector, with other bytes
 abbrev pub IsSaidRightly : (disk : DumpDisk) (came : Streams) (o : DumpsRead) (n sector : ℕ)
     → Verdict → Type 0
-IsSaidRightly disk came o n sector (Good good bad first) = IsRightlyGood disk came o n sector first
+IsSaidRightly disk came o n sector (Good good bad first) =
+    IsRightlyGood (plan_of disk) disk.format came o.image n sector first
 IsSaidRightly disk came o n sector (Contradictory good bad first other) =
     IsRightlyContradictoryIn (plan_of disk) disk.format came n sector first other
 IsSaidRightly disk came o n sector _ = Unit {0}

@@ -80,8 +80,8 @@ module _ (joined : StreamsInOrderAreJoined) (speeds : StatedSpeedsAreKept) where
               λ keeps k known. (speeds.erased (stated.stream k) (ring_of format image k) (nominal_of format k) (made k known).0 (stated.each k known) (sym (made k known).1)).1 (keeps k known),
             );
             whole = λ n sector. (
-              λ has. record { known = has.known; lies = (lie format image (stated.stream n) n sector (made n has.known).0 (stated.each n has.known) (sym (made n has.known).1)).0 has.lies },
-              λ has. record { known = has.known; lies = (lie format image (stated.stream n) n sector (made n has.known).0 (stated.each n has.known) (sym (made n has.known).1)).1 has.lies },
+              λ has. (has.known, (lie format image (stated.stream n) n sector (made n has.known).0 (stated.each n has.known) (sym (made n has.known).1)).0 has.lies),
+              λ has. record { known = has.0; lies = (lie format image (stated.stream n) n sector (made n has.0).0 (stated.each n has.0) (sym (made n has.0).1)).1 has.1 },
             );
           },
         )
@@ -104,8 +104,8 @@ module _ (joined : StreamsInOrderAreJoined) (speeds : StatedSpeedsAreKept) where
               λ keeps k known. (speeds.erased (disk.stream k) (ring_of format image k) (nominal_of format k) (disk.captured k known) (made k known).0 (made k known).1).1 (keeps k known),
             );
             whole = λ n sector. (
-              λ has. record { known = has.known; lies = (lie format image (disk.stream n) n sector (disk.captured n has.known) (made n has.known).0 (made n has.known).1).0 has.lies },
-              λ has. record { known = has.known; lies = (lie format image (disk.stream n) n sector (disk.captured n has.known) (made n has.known).0 (made n has.known).1).1 has.lies },
+              λ has. (has.known, (lie format image (disk.stream n) n sector (disk.captured n has.known) (made n has.known).0 (made n has.known).1).0 has.lies),
+              λ has. record { known = has.0; lies = (lie format image (disk.stream n) n sector (disk.captured n has.0) (made n has.0).0 (made n has.0).1).1 has.1 },
             );
           },
         )

@@ -7,8 +7,8 @@ use Rattle.law_stated_captures.specs.Streams.{last_of}
 use Rattle.phase_loop.specs.Pieces.{Piece}
 use Rattle.sector_images.specs.declared.format.Format.{Format}
 
--- Of a frame of so many cells, which begins at this place of the ring, some repetition lies from the first of these places to the last,
--- both with it.
+-- Of a frame of so many cells, which begins at this place of the ring, some repetition lies from
+-- the first of these places to the last, both with it.
 pub record LiesBetween (ring_cells begin cells : ℕ) (places : List ℕ) : Type 0 where
   pub place : ℕ
   pub repeated : place % ring_cells ≡ begin
@@ -16,9 +16,11 @@ pub record LiesBetween (ring_cells begin cells : ℕ) (places : List ℕ) : Type
   pub to : place + cells ≤ last_of places + 1
 
 -- So it is with the frame of a sector of track number n and one of these pieces, whichever it is.
-pub record LiesInAPiece (format : Format) (image : List ℕ) (n sector : ℕ) (pieces : List Piece) : Type 0 where
+pub record LiesInAPiece (format : Format) (image : List ℕ) (n sector : ℕ)
+    (pieces : List Piece) : Type 0 where
   pub before : List Piece
   pub piece : Piece
   pub behind : List Piece
   pub one : before ++ piece ∷ behind ≡ pieces
-  pub lies : LiesBetween (length (ring_of format image n)) (place_in_ring format (track_at format n) sector) (frame_cells format) piece.places
+  pub lies : LiesBetween (length (ring_of format image n))
+      (place_in_ring format (track_at format n) sector) (frame_cells format) piece.places

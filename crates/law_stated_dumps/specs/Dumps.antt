@@ -1,11 +1,13 @@
--- What dumps have of a disk's tracks, a second time: files by their paths, a stream by the bytes with which a file begins, captures and
--- sectors by the stated numbers.
-use Rattle.std.specs.Prelude.{◌≡◌, ◌≢◌, ◌<◌, ◌≤◌, ◌⊎◌, ℕ, All, List, ◌∷◌, ◌++◌, length, slice_get, slice_index, Some, None}
+-- What dumps have of a disk's tracks, a second time: files by their paths, a stream by the bytes
+-- with which a file begins, captures and sectors by the stated numbers.
+use Rattle.std.specs.Prelude.{◌≡◌, ◌≢◌, ◌<◌, ◌≤◌, ◌⊎◌, ℕ, All, List, ◌∷◌, ◌++◌, length, slice_get}
+use Rattle.std.specs.Prelude.{slice_index, Some, None}
 use Rattle.dump_reading.specs.Outcomes.{DumpDisk}
 use Rattle.flux_engine.specs.Recordings.{track_at}
 use Rattle.flux_engine.specs.Rings.{nominal_of, ring_of}
 use Rattle.kryo_stream.specs.Stream.{first_fault}
-use Rattle.law_stated_captures.specs.Streams.{IsStatedSteady, IsStatedSteadyErased, StatedCapture, StatedErasedCapture}
+use Rattle.law_stated_captures.specs.Streams.{IsStatedSteady, IsStatedSteadyErased, StatedCapture}
+use Rattle.law_stated_captures.specs.Streams.{StatedErasedCapture}
 use Rattle.law_stated_disks.specs.Lies.{LiesInAPiece}
 use Rattle.track_shelf.specs.Files.{File}
 use Rattle.track_shelf.specs.Names.{path_text}
@@ -15,7 +17,8 @@ use Rattle.track_shelf.specs.Stepping.{file_track}
 abbrev pub path_in : DumpDisk → (name : List ℕ) → (n : ℕ) → List ℕ
 path_in disk name n = path_text name (file_track disk.stepping (track_at disk.format n))
 
--- This is the file of track number n in the dump of this number: the first of all files that has the path.
+-- This is the file of track number n in the dump of this number: the first
+-- of all files that has the path.
 pub record IsFileOf (disk : DumpDisk) (files : List File) (n dump : ℕ) (file : File) : Type 0 where
   pub name : List ℕ
   pub named : slice_get disk.dumps dump ≡ Some name
@@ -27,7 +30,8 @@ pub record IsFileOf (disk : DumpDisk) (files : List File) (n dump : ℕ) (file :
 
 -- The dump has no such file.
 abbrev pub LacksFile : DumpDisk → List File → (n dump : ℕ) → Type 0
-LacksFile disk files n dump = (name : List ℕ) → slice_get disk.dumps dump ≡ Some name → All (λ other. other.path ≢ path_in disk name n) files
+LacksFile disk files n dump = (name : List ℕ) → slice_get disk.dumps dump ≡ Some name
+    → All (λ other. other.path ≢ path_in disk name n) files
 
 -- the bytes begin with these, and any may stand behind them
 pub record BeginWith (bytes front : List ℕ) : Type 0 where
@@ -35,27 +39,37 @@ pub record BeginWith (bytes front : List ℕ) : Type 0 where
   pub same : (i : ℕ) → i < length front → slice_index bytes i ≡ slice_index front i
 
 -- The dump's file begins with this stream.
-pub record HasStream (disk : DumpDisk) (files : List File) (n dump : ℕ) (stream : List ℕ) : Type 0 where
+pub record HasStream (disk : DumpDisk) (files : List File) (n dump : ℕ)
+    (stream : List ℕ) : Type 0 where
   pub file : File
   pub is : IsFileOf disk files n dump file
   pub begins : BeginWith file.bytes stream
 
--- A sector of track number n is whole in the dump: its file begins with a stream that captures the track's ring, or captures it in pieces, in
--- one of which, whichever it is, the sector's frame lies.
-pub record IsWholeIn (disk : DumpDisk) (files : List File) (image : List ℕ) (n dump sector : ℕ) : Type 0 where
+-- A sector of track number n is whole in the dump: its file begins with a stream
+-- that captures the track's ring, or captures it in pieces, in one of which,
+-- whichever it is, the sector's frame lies.
+pub record IsWholeIn (disk : DumpDisk) (files : List File) (image : List ℕ)
+    (n dump sector : ℕ) : Type 0 where
   pub stream : List ℕ
   pub has : HasStream disk files n dump stream
   pub whole : StatedCapture stream (ring_of disk.format image n) (nominal_of disk.format n)
-      ⊎ ((capture : StatedErasedCapture stream (ring_of disk.format image n) (nominal_of disk.format n)) × LiesInAPiece disk.format image n sector capture.pieces)
+      ⊎ ((capture : StatedErasedCapture stream (ring_of disk.format image n)
+      (nominal_of disk.format n))
+      × LiesInAPiece disk.format image n sector capture.pieces)
 
--- The dump's file begins with a stream that captures the ring, whole or in pieces, and the drive kept its speed.
-pub record KeptItsSpeedIn (disk : DumpDisk) (files : List File) (image : List ℕ) (n dump : ℕ) : Type 0 where
+-- The dump's file begins with a stream that captures the ring, whole or in pieces,
+-- and the drive kept its speed.
+pub record KeptItsSpeedIn (disk : DumpDisk) (files : List File) (image : List ℕ)
+    (n dump : ℕ) : Type 0 where
   pub stream : List ℕ
   pub has : HasStream disk files n dump stream
-  pub kept : ((capture : StatedCapture stream (ring_of disk.format image n) (nominal_of disk.format n))
+  pub kept
+      : ((capture : StatedCapture stream (ring_of disk.format image n) (nominal_of disk.format n))
       × IsStatedSteady stream (ring_of disk.format image n) (nominal_of disk.format n) capture)
-      ⊎ ((capture : StatedErasedCapture stream (ring_of disk.format image n) (nominal_of disk.format n))
-      × IsStatedSteadyErased stream (ring_of disk.format image n) (nominal_of disk.format n) capture)
+      ⊎ ((capture : StatedErasedCapture stream (ring_of disk.format image n)
+      (nominal_of disk.format n))
+      × IsStatedSteadyErased stream (ring_of disk.format image n) (nominal_of disk.format n)
+      capture)
 
 -- The dump's file is damaged: what it begins with is no stream without a fault.
 pub record IsDamaged (disk : DumpDisk) (files : List File) (n dump : ℕ) : Type 0 where

@@ -1,15 +1,17 @@
 //! Dumps in plain numbers.
 
-ghost use Rattle.law_stated_dumps.specs.Laws.{FilesAreStated, PassedFilesAreStated, SteadyDumpsAreStated, StreamsOfFilesAreStated, WholeSectorsAreStated};
+ghost use Rattle.law_stated_dumps.specs.Laws.{FilesAreStated, PassedFilesAreStated, SteadyDumpsAreStated};
+ghost use Rattle.law_stated_dumps.specs.Laws.{StreamsOfFilesAreStated, WholeSectorsAreStated};
 ghost use Rattle.law_stated_dumps.specs.Reached.{DumpsReachBounds};
 
 use law_stated_captures::captures_are_as_stated;
 use law_stated_disks::{disks_reach_each_bound, sectors_lie_as_stated};
 use sector_images::{sectors_lie_in_images, tracks_keep_bounds};
 
-/// A track's file in a dump is the first that has its path, and it begins with a stream where its first bytes are the stream's, whatever stands
-/// behind them. A sector that the stream captures, or that lies in one of its pieces, whichever it is, is whole in the dump; a file is passed
-/// over where it is missing, where what it begins with has a fault, or where it failed; and each other dump kept its speed, or is passed over.
+/// A track's file in a dump is the first that has its path, and it begins with a stream where its first bytes are the
+/// stream's, whatever stands behind them. A sector that the stream captures, or that lies in one of its pieces,
+/// whichever it is, is whole in the dump; a file is passed over where it is missing, where what it begins with has a
+/// fault, or where it failed; and each other dump kept its speed, or is passed over.
 pub fn dumps_are_as_stated()
     ensures files { FilesAreStated }
     ensures streams { StreamsOfFilesAreStated }
@@ -23,8 +25,8 @@ pub fn dumps_are_as_stated()
     tracks_keep_bounds()
 }
 
-/// For each track of each image there are three dumps: one whose file has any bytes behind its stream, which has each sector of the track whole
-/// in its second piece; one that lacks the file; and one whose file is damaged.
+/// For each track of each image there are three dumps: one whose file has any bytes behind its stream, which has each
+/// sector of the track whole in its second piece; one that lacks the file; and one whose file is damaged.
 pub fn dumps_reach_each_bound()
     ensures { DumpsReachBounds }
 {

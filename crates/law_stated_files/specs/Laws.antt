@@ -6,4 +6,5 @@ use Rattle.law_stated_files.specs.Written.{IsDiskFile}
 use Rattle.sector_images.specs.declared.format.Format.{Format}
 
 abbrev pub WrittenFilesAreStated : Type 0
-WrittenFilesAreStated = (format : Format) (image x : List ℕ) → IsCommodore format → IsImage format image → IsDiskFile format image x ↔ (x ≡ g64_file format image)
+WrittenFilesAreStated = (format : Format) (image x : List ℕ) → IsCommodore format
+    → IsImage format image → IsDiskFile format image x ↔ (x ≡ g64_file format image)

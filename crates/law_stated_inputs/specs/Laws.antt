@@ -8,16 +8,22 @@ use Rattle.sector_images.specs.declared.format.Format.{Format}
 use Rattle.track_shelf.specs.Files.{File, first_missing, joined}
 use Rattle.track_shelf.specs.Names.{IsNamed, folder_path, path_text}
 
--- none of the wanted files is missing, and joined they are these bytes, exactly where they are so in the folder
+-- none of the wanted files is missing, and joined they are these bytes, exactly
+-- where they are so in the folder
 abbrev pub FoldersAreStated : Type 0
 FoldersAreStated = (files : List File) (folder : List ℕ) (format : Format) (x : List ℕ)
-    → AreInFolder files folder format x ↔ ((first_missing files folder format ≡ None) × (joined files folder format ≡ x))
+    → AreInFolder files folder format x
+    ↔ ((first_missing files folder format ≡ None) × (joined files folder format ≡ x))
 
--- the paths of tracks of two digits and one: in a folder; in a dump that is named by one of its files; and in any other, which is a folder
+-- the paths of tracks of two digits and one: in a folder; in a dump that is named by one of its
+-- files; and in any other, which is a folder
 pub record PathsAreStated : Type 0 where
-  pub in_folder : (folder : List ℕ) (track : TrackId) → IsNamed track → folder_path folder track ≡ path_in_folder folder track.cylinder track.head
-  pub by_file : (name front : List ℕ) (track : TrackId) → IsNamed track → IsNameOfFile name front → path_text name track ≡ front ++ ending_of track.cylinder track.head
-  pub by_folder : (name : List ℕ) (track : TrackId) → IsNamed track → ((front : List ℕ) → IsNameOfFile name front → ⊥)
+  pub in_folder : (folder : List ℕ) (track : TrackId) → IsNamed track
+      → folder_path folder track ≡ path_in_folder folder track.cylinder track.head
+  pub by_file : (name front : List ℕ) (track : TrackId) → IsNamed track → IsNameOfFile name front
+      → path_text name track ≡ front ++ ending_of track.cylinder track.head
+  pub by_folder : (name : List ℕ) (track : TrackId) → IsNamed track
+      → ((front : List ℕ) → IsNameOfFile name front → ⊥)
       → path_text name track ≡ path_in_folder name track.cylinder track.head
 
 -- a trial has no hole exactly where its number has three zeros

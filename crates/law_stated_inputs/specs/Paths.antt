@@ -11,7 +11,8 @@ ending_of cylinder head = ending (cylinder / 10) (cylinder % 10) head
 
 -- in a folder: `/track` stands between
 abbrev pub path_in_folder : (folder : List ℕ) → (cylinder head : ℕ) → List ℕ
-path_in_folder folder cylinder head = folder ++ 47 ∷ 116 ∷ 114 ∷ 97 ∷ 99 ∷ 107 ∷ ending_of cylinder head
+path_in_folder folder cylinder head =
+    folder ++ 47 ∷ 116 ∷ 114 ∷ 97 ∷ 99 ∷ 107 ∷ ending_of cylinder head
 
 -- The name of a dump is that of one of its files, which begin with these bytes.
 pub record IsNameOfFile (name front : List ℕ) : Type 0 where

@@ -1,3 +1,4 @@
 pub mod Numbered
 pub mod Sets
 pub mod Narrow
+pub mod OfOne

@@ -20,7 +20,8 @@ left_of s = s.at_hand ++ s.later
 
 -- the streams of the tracks from number k on
 abbrev pub streams_from : Format → (seed k : ℕ) → List ℕ
-streams_from format seed k = flat_map (trial_stream format seed) (range_with_len k (length (tracks format) - k))
+streams_from format seed k =
+    flat_map (trial_stream format seed) (range_with_len k (length (tracks format) - k))
 
 -- how many times a track has at most
 abbrev pub MOST_TIMES : ℕ
@@ -32,8 +33,10 @@ pub record HasTrialRoom (format : Format) (cells : CellsState) (flux : TrackStat
   pub times : MOST_TIMES ≤ room_of_times flux
   pub indexes : 4 ≤ room_of_indexes flux
 
--- the image is the trial's; so many tracks were made, and so many bytes of the last one's stream given
-pub record IsGiving (format : Format) (seed : ℕ) (image : List ℕ) (made given : ℕ) (stream : List ℕ) : Type 0 where
+-- the image is the trial's; so many tracks were made, and so many bytes
+-- of the last one's stream given
+pub record IsGiving (format : Format) (seed : ℕ) (image : List ℕ) (made given : ℕ)
+    (stream : List ℕ) : Type 0 where
   pub image_is : image ≡ trial_image format seed
   pub few : made ≤ length (tracks format)
   pub bytes : given ≤ length stream

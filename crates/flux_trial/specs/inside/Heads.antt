@@ -1,8 +1,10 @@
 -- A drive's head that passes over a track's transitions, one after another.
-use Rattle.std.specs.Prelude.{◌≡◌, ◌≤◌, ◌<◌, ℕ, ◌+◌, ◌-◌, ◌*◌, ◌/◌, ◌%◌, All, Bool, cond, List, [], ◌∷◌, ◌++◌, length, nat_eq, take, drop}
+use Rattle.std.specs.Prelude.{◌≡◌, ◌≤◌, ◌<◌, ℕ, ◌+◌, ◌-◌, ◌*◌, ◌/◌, ◌%◌, All, Bool, cond, List, []}
+use Rattle.std.specs.Prelude.{◌∷◌, ◌++◌, length, nat_eq}
 use Rattle.std.specs.List.{list_any, range_with_len}
 use Rattle.track_rings.specs.Rings.{last_in}
-use Rattle.flux_trial.specs.Drive.{Drive, base, chance, displaced, drifted, ideal, most_drift, most_way, period}
+use Rattle.flux_trial.specs.Drive.{Drive, base, chance, displaced, drifted, ideal, most_drift}
+use Rattle.flux_trial.specs.Drive.{most_way, period}
 use Rattle.flux_trial.specs.Hole.{hole_begin, hole_cells, ring_cell}
 use Rattle.flux_trial.specs.declared.head.Head.{Head}
 use Rattle.flux_trial.specs.declared.hole.Hole.{Hole}
@@ -26,7 +28,8 @@ MOST_CELLS = 1048576
 abbrev pub LONGEST_CELL : ℕ
 LONGEST_CELL = 147456
 
--- the head's numbers keep to bounds: its periods are so long that displaced transitions stay in order
+-- the head's numbers keep to bounds: its periods are so long that
+-- displaced transitions stay in order
 pub record IsSound (head : Head) : Type 0 where
   pub chance : head.chance < 2147483648
   pub way : 2 * head.most_way + 1024 + head.most_drift ≤ head.base
@@ -80,7 +83,8 @@ passed_all head (cell ∷ cells) = passed_all (passed head cell) cells
 
 -- a ring's cell lies in the hole
 abbrev pub in_hole : Hole → ℕ → Bool
-in_hole hole cell = list_any (λ i. nat_eq cell ((hole.begin + i) % hole.ring)) (range_with_len 0 hole.count)
+in_hole hole cell =
+    list_any (λ i. nat_eq cell ((hole.begin + i) % hole.ring)) (range_with_len 0 hole.count)
 
 -- the hole of a seed in a ring of so many cells, which are more than those of any hole
 pub record IsHole (seed cells : ℕ) (hole : Hole) : Type 0 where
@@ -101,7 +105,8 @@ seen_time hole cell head = cond (in_hole hole cell) [] (time_at head ∷ [])
 abbrev pub seen_times : Hole → Head → List ℕ → List ℕ
 seen_times hole head [] = []
 seen_times hole head (cell ∷ cells) =
-    seen_time hole (ring_cell hole.ring cell) (passed head cell) ++ seen_times hole (passed head cell) cells
+    seen_time hole (ring_cell hole.ring cell) (passed head cell)
+    ++ seen_times hole (passed head cell) cells
 
 -- the cell of a ring at this place is written as the cell with this number
 abbrev pub OnRing : (ring place number : ℕ) → Type 0

@@ -1,10 +1,8 @@
 -- The readings of a track's cells are those of the sectors that stand there.
 use Rattle.std.specs.Prelude.{◌≡◌, ◌↔◌, ℕ, Bool, Contains, List, [], ◌∷◌, drop, flat_map, Some, None, refl}
-use Rattle.std.proofs.Common.{ap, sym, subst, ◌∙◌, arith, inl, inr}
+use Rattle.std.proofs.Common.{ap, sym, subst, ◌∙◌, inl, inr}
 use Rattle.std.proofs.lemmas.List.Elements.{Contains-append_cases, Contains-append_left, Contains-append_right}
-use Rattle.frame_law.specs.Laws.{ReadingsAreAll}
 use Rattle.frame_law.specs.lemmas.Members.{contains_cases, contains_first, contains_later, contains_none}
-use Rattle.frame_law.specs.Readings.{AreReadings}
 use Rattle.frame_law.specs.declared.reading.Reading.TheVariants.{Nothing, Bad as BadFrame, Good as GoodFrame}
 use Rattle.frame_law.specs.declared.reading.Reading.{Reading as Frame}
 use Rattle.turn_merge.specs.Readings.{NotedReading, bad_reading, good_reading}
@@ -87,10 +85,3 @@ module _ (sector : List Bool → ℕ → List ℕ → Type 0) (capture : ℕ) (c
 
   pub are_readings_by : AreReadingsOf sector cells (readings_in capture clock times indexes cells found)
   are_readings_by = record { stand = stand; all = noted }
-
--- by the strict rule
-pub are_readings_of : (header : List Bool → ℕ → Type 0) (sector : List Bool → ℕ → List ℕ → Type 0) → ReadingsAreAll header sector
-    → (capture : ℕ) (clock : Clock) (times indexes : List ℕ) (cells : List Bool) (found : List Found) → AreReadings header sector cells 0 found
-    → AreReadingsOf sector cells (readings_in capture clock times indexes cells found)
-are_readings_of header sector all capture clock times indexes cells found reads =
-    are_readings_by sector capture clock times indexes cells found (λ place s bytes. ((all cells 0 found).0 reads).good place s bytes (omega arith))

@@ -117,7 +117,7 @@ fn draw_after(alloc: Global, rest: &[u8]) -> Result<Drawn, Memory> {
     let mut source = MemorySource::new(bytes, 4096, Vec::new(alloc));
     let mut picture = MemorySink::new(alloc, 16384, Vec::new(alloc))?;
     let mut room = DiskRoom::reserve(alloc, Format::C1541)?;
-    let answer = map_disk(&mut room, &mut source, &mut picture);
+    let answer = map_disk(decoding_plan(), &mut room, &mut source, &mut picture);
     Ok(Drawn { answer, picture })
 }
 

@@ -20,9 +20,11 @@ unreachable-requires g c =
       names = c.sectors_lie_in_images.ensures.numbers;
       rings = c.images_have_rings.ensures;
     } in
-    no_answer-of laws c.growth_law.ensures.streams c.joined_law.ensures c.parts_fill_images.ensures.fit c.room.inside.format c.args.seed
-    c.room.inside.disk.format _ _ _ _ c.room.inside.image c.decode_disk.new.image c.in-Err.field-0 (ap (λ (s : RoomState). s.format) fresh.1) fresh.2
-    (c.start.ensures.left ∙ ap (λ (f : Format). trial_input f c.args.seed) fresh.0) c.in-Err.ensures.cause (c.in-Err.ensures.told _ refl)
+    let blames = c.in-Err.ensures.blames in
+    no_answer-of laws c.growth_law.ensures.streams c.joined_law.ensures c.planned_parts_fit_images.ensures c.room.inside.format c.args.seed
+    c.decoding_plan.result c.room.inside.disk.format _ _ _ _ c.room.inside.image c.decode_planned.new.image c.decoding_plan.ensures (ap (λ (s : RoomState). s.format) fresh.1) fresh.2
+    c.in-Err.field-0 (c.start.ensures.left ∙ ap (λ (f : Format). trial_input f c.args.seed) fresh.0)
+    (blames.source.cause, blames.image.cause, blames.notes.cause) (c.in-Err.ensures.told _ refl)
 
 pub invariant_of-room : goal.invariant_of-room
 invariant_of-room g c = λ unused. absurd (cc)
@@ -40,9 +42,9 @@ line_is g c =
       rings = c.images_have_rings.ensures;
     } in
     subst (λ (f : Format). IsTrialLine f c.args.seed c.trial_line.result.bytes) (ap (λ (s : TrialState). s.format) c.room.view_is)
-    (is_line-of laws c.growth_law.ensures.streams c.joined_law.ensures c.parts_fill_images.ensures.fit c.room.inside.format c.args.seed
-    c.room.inside.disk.format _ _ _ _ c.room.inside.image c.decode_disk.new.image c.in-Ok.totals c.track_count-tracks.result c.sum_of-sum.result
-    c.trial_line.result.bytes (ap (λ (s : RoomState). s.format) fresh.1) fresh.2
+    (is_line-of laws c.growth_law.ensures.streams c.joined_law.ensures c.planned_parts_fit_images.ensures c.room.inside.format c.args.seed
+    c.decoding_plan.result c.room.inside.disk.format _ _ _ _ c.room.inside.image c.decode_planned.new.image c.decoding_plan.ensures (ap (λ (s : RoomState). s.format) fresh.1) fresh.2
+    c.in-Ok.totals c.track_count-tracks.result c.sum_of-sum.result c.trial_line.result.bytes
     (c.start.ensures.left ∙ ap (λ (f : Format). trial_input f c.args.seed) fresh.0) (c.in-Ok.ensures.told _ refl) c.track_count-tracks.ensures
     (c.sum_of-sum.ensures.value ∙ ap sum c.bytes.ensures.value) c.trial_line.ensures)
 

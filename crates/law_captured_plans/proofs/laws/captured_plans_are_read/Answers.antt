@@ -11,7 +11,7 @@ use Rattle.law_decoded_rings.specs.Verdicts.{PiecesAreRightWithin, TwoRingsHaveS
 use Rattle.flux_engine.specs.Recordings.{track_at}
 use Rattle.law_captured_disks.specs.Frames.{RewrittenTracksAreOwn, TracksAreOwn, written_track}
 use Rattle.law_captured_disks.specs.lemmas.Owning.{rewritten_are_own, tracks_are_own}
-use Rattle.law_captured_plans.proofs.Plans.{Laws, zeros_of, captured_plans_are_never_wrong, captured_plans_are_read, erased_plans_are_read}
+use Rattle.law_captured_plans.proofs.Plans.{Laws, zeros_of, captured_plans_are_never_wrong, captured_plans_are_read, erased_plans_are_read, erased_plans_stand_in_one_piece}
 use Rattle.law_captured_plans.proofs.laws.captured_plans_are_read.Goals as goal
 
 own : (c : goal.After-tracks_fill_images) → TracksAreOwn
@@ -74,6 +74,9 @@ returns-clause-whole c = captured_plans_are_read (laws c)
 
 pub returns-clause-erased : goal.returns-clause-erased
 returns-clause-erased c = erased_plans_are_read (laws c)
+
+pub returns-clause-one_piece : goal.returns-clause-one_piece
+returns-clause-one_piece c = erased_plans_stand_in_one_piece (laws c)
 
 pub returns-clause-never_wrong : goal.returns-clause-never_wrong
 returns-clause-never_wrong c = captured_plans_are_never_wrong (laws c)

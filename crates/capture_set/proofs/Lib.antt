@@ -1,2 +1,0 @@
-pub mod OneCapture
-pub mod Causes

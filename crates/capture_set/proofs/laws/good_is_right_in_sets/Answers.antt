@@ -1,6 +1,0 @@
-use Rattle.capture_set.specs.Sets.{set_plan, set_streams}
-use Rattle.capture_set.proofs.laws.good_is_right_in_sets.Goals as goal
-
-pub returns : goal.returns
-returns c format count x n part is sector good bad first verdict_is =
-    c.plans_are_right.ensures.good (set_plan count) format (set_streams count x) n is.captures is.many is.each sector good bad first verdict_is

@@ -1,5 +1,0 @@
-use Rattle.capture_set.specs.Sets.{set_part_of, set_plan, set_streams}
-use Rattle.capture_set.proofs.laws.sets_are_one.Goals as goal
-
-pub returns : goal.returns
-returns c format count x a b p q = c.plans_are_right.ensures.one (set_plan count) set_part_of format (set_streams count x) a b p q

@@ -1,3 +1,0 @@
-pub mod Rescued
-pub mod Answers
-pub mod Laws

@@ -1,5 +1,0 @@
-use Rattle.flux_engine.proofs.Outcomes.{good_is_right}
-use Rattle.flux_engine.proofs.laws.good_is_right.Goals as goal
-
-pub returns : goal.returns
-returns c = good_is_right c.tracks_are_read.ensures c.sectors_fill_tracks.ensures.sectors
