@@ -10,7 +10,7 @@ use Rattle.sector_images.specs.declared.format.Format.{Format}
 use Rattle.sector_report.specs.Lines.{usage_text}
 use Rattle.flux_help.specs.Meanings.{no_format_ending}
 use Rattle.flux_help.specs.Unfit.{first_unfit, unfit_text}
-use Rattle.flux_help.specs.Verbs.{asks_format, is_own, verb_of, verb_row}
+use Rattle.flux_help.specs.Verbs.{asks_format, is_own, verb_of, verb_texts}
 use Rattle.flux_help.specs.WrittenNumbers.{written_numbers}
 use Rattle.flux_help.specs.declared.unfit.Unfit.{Unfit}
 use Rattle.flux_help.specs.declared.verb.Verb.{Verb}
@@ -18,7 +18,7 @@ use Rattle.flux_help.specs.declared.verb.Verb.{Verb}
 -- what follows the first word where it is one of those that the usage line does not name; else the usage line
 abbrev pub usage_by : Option Verb → List ℕ
 usage_by None = usage_text
-usage_by (Some verb) = if is_own verb then (verb_row verb).usage else usage_text
+usage_by (Some verb) = if is_own verb then (verb_texts verb).usage.now else usage_text
 
 -- a format follows this first word, of which the usage line does not tell it
 abbrev pub wants_format : Option Verb → Bool

@@ -2,17 +2,17 @@
 
 ghost use Rattle.std.specs.Prelude.{◌≡◌, ◌≤◌, IfSome, length, map};
 ghost use Rattle.std.specs.Option.{option_map};
-ghost use Rattle.flux_help.specs.Meanings.{meaning_of as row_of_word, meaning_row, meanings, same_letters};
+ghost use Rattle.flux_help.specs.Meanings.{meaning_of as row_of_word, meanings, same_letters};
 
-/// Such a word, and the end of the line that it is answered by.
+/// Such a word, and the end of the line that it is answered by. (As `Texts`, its constants can be named.)
 #[derive(Clone, Copy, Debug)]
-pub(crate) struct Meaning {
-    pub word: &'static str,
-    pub ending: &'static str,
+pub(crate) struct Meaning<T> {
+    pub word: T,
+    pub ending: T,
 }
 
 /// All of them. A word that several disks have means the one that is most often met.
-const MEANINGS: [Meaning; 16] = [
+const MEANINGS: [Meaning<&str>; 14] = [
     Meaning {
         word: "adf",
         ending: "; try: amiga\n",
@@ -31,15 +31,7 @@ const MEANINGS: [Meaning; 16] = [
     },
     Meaning {
         word: "d81",
-        ending: "; try: c1581\n",
-    },
-    Meaning {
-        word: "d80",
-        ending: "; try: c8050\n",
-    },
-    Meaning {
-        word: "d82",
-        ending: "; try: c8250\n",
+        ending: "; a Commodore 1581's disks have none yet\n",
     },
     Meaning {
         word: "do",
@@ -80,15 +72,15 @@ const MEANINGS: [Meaning; 16] = [
 ];
 
 /// All of them, as contracts see them.
-fn all_meanings() -> &'static [Meaning]
-    ensures { map meaning_row result.now ≡ meanings }
+fn all_meanings() -> &'static [Meaning<&'static str>]
+    ensures { map (λ row. (row.word.now, row.ending.now)) result.now ≡ meanings }
 {
     &MEANINGS
 }
 
 /// What a word means, in letters of any case, if it is one of these.
-pub(crate) fn meaning_of(word: &[u8]) -> Option<Meaning>
-    ensures row { option_map meaning_row result ≡ row_of_word word.now }
+pub(crate) fn meaning_of(word: &[u8]) -> Option<Meaning<&'static str>>
+    ensures row { option_map (λ row. (row.word.now, row.ending.now)) result ≡ row_of_word word.now }
     ensures short { IfSome result (λ meaning. length meaning.ending.now ≤ 100) }
 {
     for meaning in all_meanings() {

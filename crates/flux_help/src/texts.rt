@@ -1,19 +1,19 @@
 ghost use Rattle.std.specs.Prelude.{◌≡◌, ◌≤◌, length};
-ghost use Rattle.flux_help.specs.Pages.{codes_text, disk_name, disk_text, format_text, heading_text, intro_text, version_text};
+ghost use Rattle.flux_help.specs.Pages.{disk_name, disk_text, format_text};
 
 use sector_images::{Format, image_size};
 use sector_report::{Line, put, put_named};
 
 /// The version, as `CHANGELOG.md` counts it, the commit, and the logic by which the toolchain proves it. No source can
 /// hold the name of its own commit: it comes into the program of a package in place of the forty bytes behind `commit `.
-const VERSION: &str = "\
+pub(crate) const VERSION: &str = "\
 flux 0.4.0
 commit unknown: built by hand, not of a package
 proved in Rattle, logic dac8208d650f15bf
 ";
 
 /// What the program is.
-const INTRO: &str = "\
+pub(crate) const INTRO: &str = "\
 flux reads KryoFlux stream captures of floppy disks and writes images back as streams.
 It reads standard input or folders and writes standard output; reports and refusals go to standard error.
 
@@ -21,13 +21,13 @@ Commands:
 ";
 
 /// The last line of the commands, and what stands before the formats.
-const HEADING: &str = "   --version                    the version
+pub(crate) const HEADING: &str = "   --version                    the version
 
 Formats:
 ";
 
 /// How disks are written by their numbers, and a line for each exit code.
-const CODES: &str = "
+pub(crate) const CODES: &str = "
 Any other disk of IBM's double or single density is a format by its numbers: mfm-RATE-CxHxSxB with dd, hd or hd360 for RATE,
 or fm-RATE-CxHxSxB with sd or sd8; C cylinders, H heads, S sectors of B bytes, and @F behind it where F is the number of the first.
 
@@ -44,37 +44,38 @@ Exit codes:
    9\tthe system gave no words
 ";
 
-/// The version, as contracts see it.
-#[tactic(auto, unfolding(crate::specs::Pages::version_text))]
-pub(crate) fn version() -> &'static str
-    ensures { result.now ≡ version_text }
-{
-    VERSION
-}
+// What people call the disk of a format, its cylinders, its heads where there are two, and the sectors of a track.
+const IBM_3740_DISK: &str = "IBM 3740, 8-inch, 77 cylinders, 26 sectors";
 
-/// What the program is, as contracts see it.
-#[tactic(auto, unfolding(crate::specs::Pages::intro_text))]
-pub(crate) fn intro() -> &'static str
-    ensures { result.now ≡ intro_text }
-{
-    INTRO
-}
+const IBM_360_DISK: &str = "PC, 5.25-inch, 40 cylinders, 2 heads, 9 sectors";
 
-/// What stands between the commands and the formats, as contracts see it.
-#[tactic(auto, unfolding(crate::specs::Pages::heading_text))]
-pub(crate) fn heading() -> &'static str
-    ensures { result.now ≡ heading_text }
-{
-    HEADING
-}
+const IBM_720_DISK: &str = "PC, Atari ST and MSX, 3.5-inch, 80 cylinders, 2 heads, 9 sectors";
 
-/// What stands after the formats, as contracts see it.
-#[tactic(auto, unfolding(crate::specs::Pages::codes_text))]
-pub(crate) fn exit_codes() -> &'static str
-    ensures { result.now ≡ codes_text }
-{
-    CODES
-}
+const IBM_1440_DISK: &str = "PC, 3.5-inch, high density, 80 cylinders, 2 heads, 18 sectors";
+
+const AMIGA_DISK: &str = "Amiga, 3.5-inch, 80 cylinders, 2 heads, 11 sectors";
+
+const AMIGA_HD_DISK: &str = "Amiga, 3.5-inch, high density, 80 cylinders, 2 heads, 22 sectors";
+
+const C1541_DISK: &str = "Commodore 1541, 35 cylinders, 21 to 17 sectors";
+
+const C1541_FORTY_DISK: &str = "Commodore 1541, 40 cylinders, 21 to 17 sectors";
+
+const C1571_DISK: &str = "Commodore 1571, 35 cylinders, 2 heads, 21 to 17 sectors";
+
+const APPLE_DO_DISK: &str =
+    "Apple II, exact to the cell, in the order of DOS 3.3, 35 cylinders, 16 sectors";
+
+const APPLE_PO_DISK: &str =
+    "Apple II, exact to the cell, in the order of ProDOS, 35 cylinders, 16 sectors";
+
+const APPLE_DOS33_DISK: &str = "Apple II, as DOS 3.3 wrote it, 35 cylinders, 16 sectors";
+
+const APPLE_PRODOS_DISK: &str = "Apple II, as ProDOS wrote it, 35 cylinders, 16 sectors";
+
+const MAC_400_DISK: &str = "Macintosh, 3.5-inch, 80 cylinders, 12 to 8 sectors";
+
+const MAC_800_DISK: &str = "Macintosh, 3.5-inch, 80 cylinders, 2 heads, 12 to 8 sectors";
 
 /// The line of a format: its word, its disk, and how many bytes its image has.
 #[tactic(auto, unfolding(crate::specs::Pages::format_text))]
@@ -111,26 +112,21 @@ fn disk_name(format: Format) -> &'static str
     ensures short { length result.now ≤ 100 }
 {
     match format {
-        Format::Ibm3740 => "IBM 3740, 8-inch, 77 cylinders, 26 sectors",
-        Format::Ibm360 => "PC, 5.25-inch, 40 cylinders, 2 heads, 9 sectors",
-        Format::Ibm720 => "PC, Atari ST and MSX, 3.5-inch, 80 cylinders, 2 heads, 9 sectors",
-        Format::Ibm1440 => "PC, 3.5-inch, high density, 80 cylinders, 2 heads, 18 sectors",
-        Format::Amiga => "Amiga, 3.5-inch, 80 cylinders, 2 heads, 11 sectors",
-        Format::AmigaHd => "Amiga, 3.5-inch, high density, 80 cylinders, 2 heads, 22 sectors",
-        Format::C1541 => "Commodore 1541, 35 cylinders, 21 to 17 sectors",
-        Format::C1541Forty => "Commodore 1541, 40 cylinders, 21 to 17 sectors",
-        Format::C1571 => "Commodore 1571, 35 cylinders, 2 heads, 21 to 17 sectors",
-        Format::C8050 => "Commodore 8050, 5.25-inch, 77 cylinders, 29 to 23 sectors",
-        Format::C8250 => "Commodore 8250, 5.25-inch, 77 cylinders, 2 heads, 29 to 23 sectors",
-        Format::C1581 => "Commodore 1581, 3.5-inch, 80 cylinders, 2 heads, 10 sectors",
-        Format::AppleDo =>
-            "Apple II, exact to the cell, in the order of DOS 3.3, 35 cylinders, 16 sectors",
-        Format::ApplePo =>
-            "Apple II, exact to the cell, in the order of ProDOS, 35 cylinders, 16 sectors",
-        Format::AppleDos33 => "Apple II, as DOS 3.3 wrote it, 35 cylinders, 16 sectors",
-        Format::AppleProdos => "Apple II, as ProDOS wrote it, 35 cylinders, 16 sectors",
-        Format::Mac400 => "Macintosh, 3.5-inch, 80 cylinders, 12 to 8 sectors",
-        Format::Mac800 => "Macintosh, 3.5-inch, 80 cylinders, 2 heads, 12 to 8 sectors",
+        Format::Ibm3740 => IBM_3740_DISK,
+        Format::Ibm360 => IBM_360_DISK,
+        Format::Ibm720 => IBM_720_DISK,
+        Format::Ibm1440 => IBM_1440_DISK,
+        Format::Amiga => AMIGA_DISK,
+        Format::AmigaHd => AMIGA_HD_DISK,
+        Format::C1541 => C1541_DISK,
+        Format::C1541Forty => C1541_FORTY_DISK,
+        Format::C1571 => C1571_DISK,
+        Format::AppleDo => APPLE_DO_DISK,
+        Format::ApplePo => APPLE_PO_DISK,
+        Format::AppleDos33 => APPLE_DOS33_DISK,
+        Format::AppleProdos => APPLE_PRODOS_DISK,
+        Format::Mac400 => MAC_400_DISK,
+        Format::Mac800 => MAC_800_DISK,
         Format::Numbered(disk) => disk.label(),
     }
 }

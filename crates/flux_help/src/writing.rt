@@ -1,10 +1,10 @@
 ghost use Rattle.std.specs.Prelude.{◌++◌};
 ghost use Rattle.flux_base.specs.Moments.{Puts};
 ghost use Rattle.flux_base.specs.World.{sink_at};
-ghost use Rattle.flux_help.specs.Pages.{about_text, codes_text, formats_text, heading_text, help_text, page_text, verbs_text};
+ghost use Rattle.flux_help.specs.Pages.{about_text, formats_text, help_text, page_text, verbs_text};
 
 use crate::page::Page;
-use crate::texts::{exit_codes, format_line, heading, intro, version};
+use crate::texts::{CODES, HEADING, INTRO, VERSION, format_line};
 use crate::verb::{Verb, all_verbs};
 use flux_base::{Failed, Sink, write_whole};
 use sector_images::all_formats;
@@ -16,7 +16,7 @@ pub fn write_page<W: Sink>(page: Page, sink: &mut W) -> Result<(), Failed>
 {
     match page {
         Page::Help => write_help(sink),
-        Page::Version => write_whole(sink, version().as_bytes()),
+        Page::Version => write_whole(sink, VERSION.as_bytes()),
         Page::About(verb) => write_about(verb, sink),
     }
 }
@@ -36,7 +36,7 @@ fn write_about<W: Sink>(verb: Verb, sink: &mut W) -> Result<(), Failed>
 fn write_help<W: Sink>(sink: &mut W) -> Result<(), Failed>
     ensures { Puts (sink_at W.Sink sink.old) (sink_at W.Sink sink.new) help_text result }
 {
-    match write_whole(sink, intro().as_bytes()) {
+    match write_whole(sink, INTRO.as_bytes()) {
         Ok(()) => write_lists(sink),
         Err(failed) => Err(failed),
     }
@@ -44,7 +44,7 @@ fn write_help<W: Sink>(sink: &mut W) -> Result<(), Failed>
 
 /// Writes the commands, the formats and the exit codes.
 fn write_lists<W: Sink>(sink: &mut W) -> Result<(), Failed>
-    ensures { Puts (sink_at W.Sink sink.old) (sink_at W.Sink sink.new) (verbs_text ++ (heading_text ++ (formats_text ++ codes_text))) result }
+    ensures { Puts (sink_at W.Sink sink.old) (sink_at W.Sink sink.new) (verbs_text ++ (HEADING.now ++ (formats_text ++ CODES.now))) result }
 {
     match write_verbs(sink) {
         Ok(()) => write_headed_tables(sink),
@@ -54,9 +54,9 @@ fn write_lists<W: Sink>(sink: &mut W) -> Result<(), Failed>
 
 /// Writes the formats and the exit codes, and what stands before them.
 fn write_headed_tables<W: Sink>(sink: &mut W) -> Result<(), Failed>
-    ensures { Puts (sink_at W.Sink sink.old) (sink_at W.Sink sink.new) (heading_text ++ (formats_text ++ codes_text)) result }
+    ensures { Puts (sink_at W.Sink sink.old) (sink_at W.Sink sink.new) (HEADING.now ++ (formats_text ++ CODES.now)) result }
 {
-    match write_whole(sink, heading().as_bytes()) {
+    match write_whole(sink, HEADING.as_bytes()) {
         Ok(()) => write_tables(sink),
         Err(failed) => Err(failed),
     }
@@ -64,10 +64,10 @@ fn write_headed_tables<W: Sink>(sink: &mut W) -> Result<(), Failed>
 
 /// Writes the formats and the exit codes.
 fn write_tables<W: Sink>(sink: &mut W) -> Result<(), Failed>
-    ensures { Puts (sink_at W.Sink sink.old) (sink_at W.Sink sink.new) (formats_text ++ codes_text) result }
+    ensures { Puts (sink_at W.Sink sink.old) (sink_at W.Sink sink.new) (formats_text ++ CODES.now) result }
 {
     match write_formats(sink) {
-        Ok(()) => write_whole(sink, exit_codes().as_bytes()),
+        Ok(()) => write_whole(sink, CODES.as_bytes()),
         Err(failed) => Err(failed),
     }
 }

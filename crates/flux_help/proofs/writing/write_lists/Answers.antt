@@ -1,10 +1,11 @@
 use Rattle.std.proofs.Common.{◌++◌}
 use Rattle.flux_base.specs.lemmas.Parts.{Puts-cut, Puts-then}
-use Rattle.flux_help.specs.Pages.{codes_text, formats_text, heading_text}
+use Rattle.flux_help.specs.Pages.{formats_text}
+use Rattle.flux_help.specs.declared.texts.TheConstants.{HEADING, CODES}
 use Rattle.flux_help.proofs.writing.write_lists.Goals as goal
 
 pub returns-in-Ok : goal.returns-in-Ok
 returns-in-Ok g c = Puts-then c.write_headed_tables.result c.in-Ok.ensures c.write_headed_tables.ensures
 
 pub returns-in-Err : goal.returns-in-Err
-returns-in-Err g c = Puts-cut (heading_text ++ (formats_text ++ codes_text)) c.in-Err.ensures
+returns-in-Err g c = Puts-cut (HEADING.now ++ (formats_text ++ CODES.now)) c.in-Err.ensures
