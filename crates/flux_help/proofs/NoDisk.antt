@@ -3,7 +3,7 @@ use Rattle.std.specs.Prelude.{◌≡◌, ℕ, ◌+◌, ◌≤◌, ◌&&◌, Bool
 use Rattle.std.specs.Option.{option_and_then}
 use Rattle.std.proofs.Common.{ap, arith, sym, subst, ◌∙◌}
 use Rattle.std.proofs.lemmas.Bool.{and_from, and_parts, le-leb, leb-true}
-use Rattle.ibm_disks.specs.Disks.{HasTrack, IsDiskOf, sound, track_of_disk}
+use Rattle.ibm_disks.specs.Disks.{HasTrack, IsDiskOf, are_few, sound, track_of_disk}
 use Rattle.ibm_disks.specs.Plans.{FillsTrackOf, density_of, track_at, track_of}
 use Rattle.ibm_disks.specs.lemmas.DiskLaws.{is-sound}
 use Rattle.ibm_disks.specs.lemmas.PlanLaws.{filled}
@@ -12,7 +12,7 @@ use Rattle.ibm_disks.specs.declared.rate.Rate.{Rate}
 use Rattle.ibm_disks.specs.declared.sector_size.SectorSize.{SectorSize}
 use Rattle.ibm_disks.specs.declared.track_numbers.TrackNumbers.{TrackNumbers}
 use Rattle.ibm_disks.specs.declared.word.DiskNumbers.{DiskNumbers}
-use Rattle.flux_help.specs.Unfit.{UnfitIsNoDisk, first_unfit, fits, last_sector, size_with, within}
+use Rattle.flux_help.specs.Unfit.{UnfitIsNoDisk, first_unfit, fits, last_sector, size_with}
 use Rattle.flux_help.specs.declared.unfit.Unfit.{Unfit}
 use Rattle.flux_help.specs.declared.unfit.Unfit.TheVariants.{Cylinders, Heads, Sectors, SectorBytes, LastSector, Track}
 use Rattle.flux_help.proofs.Sizes.{size-has, size-some}
@@ -24,11 +24,23 @@ chosen false b c o x is = absurd (cc)
 chosen true false c o x is = absurd (cc)
 chosen true true false o x is = absurd (cc)
 
-within-is : (low high n : ℕ) → low ≤ n → n ≤ high → within low high n ≡ true
-within-is low high n some few = and_from _ _ (le-leb _ _ some) (le-leb _ _ few)
+-- so many cylinders of one head, and one cylinder of so many heads
+few-cylinders : (n : ℕ) → 1 ≤ n → n ≤ 99 → are_few n 1 ≡ true
+few-cylinders n some few = and_from _ _ (and_from _ _ (and_from _ _ (le-leb _ _ some) (le-leb _ _ few)) refl) refl
 
-is-within : (low high n : ℕ) → within low high n ≡ true → (low ≤ n) × (n ≤ high)
-is-within low high n is = (let parts = and_parts (nat_le low n) (nat_le n high) is in (leb-true _ _ parts.0, leb-true _ _ parts.1))
+few-heads : (n : ℕ) → 1 ≤ n → n ≤ 2 → are_few 1 n ≡ true
+few-heads n some few = and_from _ _ (le-leb _ _ some) (le-leb _ _ few)
+
+cylinders-few : (n : ℕ) → are_few n 1 ≡ true → (1 ≤ n) × (n ≤ 99)
+cylinders-few n is =
+    let all = and_parts (nat_le 1 n && nat_le n 99 && true) true is in
+    let parts = and_parts (nat_le 1 n) (nat_le n 99) (and_parts (nat_le 1 n && nat_le n 99) true all.0).0 in
+    (leb-true _ _ parts.0, leb-true _ _ parts.1)
+
+heads-few : (n : ℕ) → are_few 1 n ≡ true → (1 ≤ n) × (n ≤ 2)
+heads-few n is =
+    let parts = and_parts (nat_le 1 n) (nat_le n 2) is in
+    (leb-true _ _ parts.0, leb-true _ _ parts.1)
 
 -- the numbers of a track fill it
 fills : (rate : Rate) (sectors first : ℕ) (size : SectorSize) (track : TrackNumbers) → track_of rate sectors first size ≡ Some track → FillsTrackOf rate track
@@ -89,7 +101,7 @@ module _ (n : DiskNumbers) where
       (track_at (density_of n.rate) (record { rate = n.rate; sectors = n.sectors; first_sector = n.first_sector; size = has.size })) (track_of_disk disk) has.is in
       let sized : size_with n.sector_bytes ≡ Some has.size = size-some n.sector_bytes has.size has.bytes in
       none-unfit (fits n Cylinders) (fits n Heads) (fits n Sectors) (fits n SectorBytes) (fits n LastSector) (fits n Track)
-      (within-is 1 99 n.cylinders is.some_cylinders is.few_cylinders) (within-is 1 2 n.heads is.some_heads is.few_heads) (and_from _ _ tests.0 tests.1)
+      (few-cylinders n.cylinders is.some_cylinders is.few_cylinders) (few-heads n.heads is.some_heads is.few_heads) (and_from _ _ tests.0 tests.1)
       (ap is_some sized) (le-leb _ _ (last-few (leb-true _ _ tests.2)))
       (ap (λ (o : Option SectorSize). is_some (option_and_then (track_of n.rate n.sectors n.first_sector) o)) sized ∙ ap is_some has.is)
     where
@@ -100,7 +112,7 @@ module _ (n : DiskNumbers) where
   fits-disk : first_unfit n ≡ None → (disk : IbmDisk) × IsDiskOf n disk
   fits-disk is =
       let all = all-fit (fits n Cylinders) (fits n Heads) (fits n Sectors) (fits n SectorBytes) (fits n LastSector) (fits n Track) is in
-      by_size (is-within 1 99 n.cylinders all.0) (is-within 1 2 n.heads all.1) (size_with n.sector_bytes) refl all.5
+      by_size (cylinders-few n.cylinders all.0) (heads-few n.heads all.1) (size_with n.sector_bytes) refl all.5
     where
       by_track : (1 ≤ n.cylinders) × (n.cylinders ≤ 99) → (1 ≤ n.heads) × (n.heads ≤ 2) → (size : SectorSize) (o : Option TrackNumbers) → size_with n.sector_bytes ≡ Some size
           → track_of n.rate n.sectors n.first_sector size ≡ o → is_some o ≡ true → (disk : IbmDisk) × IsDiskOf n disk

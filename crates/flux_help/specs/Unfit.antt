@@ -1,18 +1,16 @@
 -- Why numbers are no disk's (own): the first of them that does not fit.
 use Rattle.std.specs.Prelude.{◌≡◌, ◌↔◌, ℕ, ◌+◌, ◌-◌, ◌&&◌, Bool, not, is_some, nat_eq, nat_le, List, [], ◌∷◌, ◌++◌, codes, decimal, find, Option, None}
 use Rattle.std.specs.Option.{option_and_then}
-use Rattle.ibm_disks.specs.Disks.{IsDiskOf}
+use Rattle.ibm_disks.specs.Disks.{IsDiskOf, are_few}
 use Rattle.ibm_disks.specs.Numbers.{size_of}
 use Rattle.ibm_disks.specs.Plans.{track_bytes, track_of}
 use Rattle.ibm_disks.specs.declared.disk.IbmDisk.{IbmDisk}
 use Rattle.ibm_disks.specs.declared.sector_size.SectorSize.{SectorSize}
 use Rattle.ibm_disks.specs.declared.sector_size.SectorSize.TheVariants.{Bytes128, Bytes256, Bytes512, Bytes1024}
 use Rattle.ibm_disks.specs.declared.word.DiskNumbers.{DiskNumbers}
+use Rattle.flux_help.specs.declared.unfit.TheConstants.{CYLINDERS_ARE, HEADS_ARE, SECTORS_ARE, SECTOR_BYTES_ARE, LAST_SECTOR_IS}
 use Rattle.flux_help.specs.declared.unfit.Unfit.{Unfit}
 use Rattle.flux_help.specs.declared.unfit.Unfit.TheVariants.{Cylinders, Heads, Sectors, SectorBytes, LastSector, Track}
-
-abbrev pub within : (low high number : ℕ) → Bool
-within low high number = nat_le low number && nat_le number high
 
 -- the size of so many bytes
 abbrev pub size_with : ℕ → Option SectorSize
@@ -24,9 +22,9 @@ last_sector n = n.first_sector + n.sectors - 1
 
 -- a number fits
 abbrev pub fits : DiskNumbers → Unfit → Bool
-fits n Cylinders = within 1 99 n.cylinders
-fits n Heads = within 1 2 n.heads
-fits n Sectors = within 1 32 n.sectors
+fits n Cylinders = are_few n.cylinders 1
+fits n Heads = are_few 1 n.heads
+fits n Sectors = nat_le 1 n.sectors && nat_le n.sectors 32
 fits n SectorBytes = is_some (size_with n.sector_bytes)
 fits n LastSector = nat_le (last_sector n) 255
 fits n Track = is_some (option_and_then (track_of n.rate n.sectors n.first_sector) (size_with n.sector_bytes))
@@ -45,7 +43,7 @@ UnfitIsNoDisk = (n : DiskNumbers) → first_unfit n ≡ None ↔ ((disk : IbmDis
 
 -- what is said of it
 abbrev pub last_sector_text : DiskNumbers → List ℕ
-last_sector_text n = codes "the last sector is 255 at most, not " ++ decimal (last_sector n)
+last_sector_text n = LAST_SECTOR_IS.now ++ decimal (last_sector n)
 
 abbrev pub track_text : DiskNumbers → List ℕ
 track_text n =
@@ -53,9 +51,9 @@ track_text n =
     ++ decimal (track_bytes n.rate)
 
 abbrev pub unfit_text : Unfit → DiskNumbers → List ℕ
-unfit_text Cylinders n = codes "cylinders are 1 to 99, not " ++ decimal n.cylinders
-unfit_text Heads n = codes "heads are 1 or 2, not " ++ decimal n.heads
-unfit_text Sectors n = codes "sectors are 1 to 32, not " ++ decimal n.sectors
-unfit_text SectorBytes n = codes "bytes of a sector are 128, 256, 512 or 1024, not " ++ decimal n.sector_bytes
+unfit_text Cylinders n = CYLINDERS_ARE.now ++ decimal n.cylinders
+unfit_text Heads n = HEADS_ARE.now ++ decimal n.heads
+unfit_text Sectors n = SECTORS_ARE.now ++ decimal n.sectors
+unfit_text SectorBytes n = SECTOR_BYTES_ARE.now ++ decimal n.sector_bytes
 unfit_text LastSector n = last_sector_text n
 unfit_text Track n = track_text n

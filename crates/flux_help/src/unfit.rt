@@ -1,16 +1,28 @@
 //! Why the numbers that a word writes are no disk's.
 
-ghost use Rattle.std.specs.Prelude.{◌≡◌, ◌+◌, ◌≤◌, ◌++◌, ◌∷◌, [], Some, codes, decimal, length};
+ghost use Rattle.std.specs.Prelude.{◌≡◌, ◌+◌, ◌≤◌, ◌++◌, ◌&&◌, ◌∷◌, [], Some, codes, decimal, length, nat_le};
 ghost use Rattle.std.specs.Option.{option_map};
 ghost use Rattle.arrayvec.specs.ArrayString.{array_string_len};
+ghost use Rattle.ibm_disks.specs.Disks.{are_few};
 ghost use Rattle.ibm_disks.specs.Plans.{IsCountOfSectors};
-ghost use Rattle.flux_help.specs.Unfit.{UnfitIsNoDisk, first_of, first_unfit, last_sector_text, size_with, track_text, unfit_text, within};
+ghost use Rattle.flux_help.specs.Unfit.{UnfitIsNoDisk, first_of, first_unfit, last_sector_text, size_with, track_text, unfit_text};
 ghost use Rattle.flux_help.specs.WrittenNumbers.{written_numbers};
 ghost use Rattle.flux_help.specs.WrongWords.{numbers_ending, unfit_ending};
 ghost use Rattle.flux_help.specs.declared.unfit.Unfit.TheVariants.{LastSector, Track};
 
 use ibm_disks::{DiskNumbers, SectorSize, TrackNumbers};
 use sector_report::{Line, put, put_named, put_u32};
+
+// How the lines begin on a number that does not fit: which ones fit.
+const CYLINDERS_ARE: &str = "cylinders are 1 to 99, not ";
+
+const HEADS_ARE: &str = "heads are 1 or 2, not ";
+
+const SECTORS_ARE: &str = "sectors are 1 to 32, not ";
+
+const SECTOR_BYTES_ARE: &str = "bytes of a sector are 128, 256, 512 or 1024, not ";
+
+const LAST_SECTOR_IS: &str = "the last sector is 255 at most, not ";
 
 /// A number of a disk's that does not fit.
 #[derive(Clone, Copy, Debug)]
@@ -61,13 +73,13 @@ fn unfit_ending(numbers: DiskNumbers) -> Option<Line>
 fn first_unfit(numbers: DiskNumbers) -> Option<Unfit>
     ensures { result ≡ first_unfit numbers }
 {
-    if !is_within(1, 99, numbers.cylinders) {
+    if !are_cylinders(numbers.cylinders) {
         return Some(Unfit::Cylinders);
     }
-    if !is_within(1, 2, numbers.heads) {
+    if !are_heads(numbers.heads) {
         return Some(Unfit::Heads);
     }
-    if !is_within(1, 32, numbers.sectors) {
+    if !are_sectors(numbers.sectors) {
         return Some(Unfit::Sectors);
     }
     match size_with(numbers.sector_bytes) {
@@ -76,11 +88,25 @@ fn first_unfit(numbers: DiskNumbers) -> Option<Unfit>
     }
 }
 
-/// Whether a number is one of these.
-fn is_within(low: u16, high: u16, number: u16) -> bool
-    ensures { result ≡ within low high number }
+/// Whether a disk has so many cylinders.
+fn are_cylinders(number: u16) -> bool
+    ensures { result ≡ are_few number 1 }
 {
-    low <= number && number <= high
+    1 <= number && number <= 99
+}
+
+/// Whether a disk has so many heads.
+fn are_heads(number: u16) -> bool
+    ensures { result ≡ are_few 1 number }
+{
+    1 <= number && number <= 2
+}
+
+/// Whether a track has so many sectors.
+fn are_sectors(number: u16) -> bool
+    ensures { result ≡ (nat_le 1 number && nat_le number 32) }
+{
+    1 <= number && number <= 32
 }
 
 /// The size of so many bytes, if there is one.
@@ -125,14 +151,10 @@ fn put_unfit(line: &mut Line, number: Unfit, numbers: DiskNumbers)
     ensures len { array_string_len line.new ≤ array_string_len line.old + 100 }
 {
     match number {
-        Unfit::Cylinders => put_not(line, "cylinders are 1 to 99, not ", numbers.cylinders),
-        Unfit::Heads => put_not(line, "heads are 1 or 2, not ", numbers.heads),
-        Unfit::Sectors => put_not(line, "sectors are 1 to 32, not ", numbers.sectors),
-        Unfit::SectorBytes => put_not(
-            line,
-            "bytes of a sector are 128, 256, 512 or 1024, not ",
-            numbers.sector_bytes,
-        ),
+        Unfit::Cylinders => put_not(line, CYLINDERS_ARE, numbers.cylinders),
+        Unfit::Heads => put_not(line, HEADS_ARE, numbers.heads),
+        Unfit::Sectors => put_not(line, SECTORS_ARE, numbers.sectors),
+        Unfit::SectorBytes => put_not(line, SECTOR_BYTES_ARE, numbers.sector_bytes),
         Unfit::LastSector => put_last_sector(line, numbers),
         Unfit::Track => put_track(line, numbers),
     }
@@ -155,11 +177,7 @@ fn put_last_sector(line: &mut Line, numbers: DiskNumbers)
     ensures len { array_string_len line.new ≤ array_string_len line.old + 100 }
 {
     let behind = u32::from(numbers.first_sector) + u32::from(numbers.sectors);
-    put_named(
-        line,
-        "the last sector is 255 at most, not ",
-        behind.saturating_sub(1),
-    );
+    put_named(line, LAST_SECTOR_IS, behind.saturating_sub(1));
 }
 
 /// Appends that the sectors do not fit on their track.
