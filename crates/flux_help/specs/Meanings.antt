@@ -1,5 +1,5 @@
--- Words that people have for a disk or for the file of its image, and the end of the line that such a
--- word is answered by (own).
+-- Words that people have for a disk or for the file of its image, and the end of the line that
+-- such a word is answered by (own).
 use Rattle.std.specs.Prelude.{ℕ, List, Bool, map, Option, find, unwrap_or}
 use Rattle.std.specs.Char.{to_ascii_lowercase}
 use Rattle.std.specs.Option.{option_map}
@@ -21,4 +21,5 @@ meaning_of word = find (λ meaning. same_letters meaning.0 word) meanings
 
 -- what the word means, if it is one of them, and else the format whose word is nearest
 abbrev pub no_format_ending : List ℕ → List ℕ
-no_format_ending word = unwrap_or (option_map (λ meaning. meaning.1) (meaning_of word)) (nearest_text word)
+no_format_ending word =
+    unwrap_or (option_map (λ meaning. meaning.1) (meaning_of word)) (nearest_text word)

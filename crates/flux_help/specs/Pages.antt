@@ -3,18 +3,29 @@ use Rattle.std.specs.Prelude.{ℕ, List, ◌++◌, codes, decimal, flat_map}
 use Rattle.ibm_disks.specs.Disks.{disk_label}
 use Rattle.sector_images.specs.Formats.{formats, row}
 use Rattle.sector_images.specs.declared.format.Format.{Format}
-use Rattle.sector_images.specs.declared.format.Format.TheVariants.{Ibm3740, Ibm360, Ibm720, Ibm1440, Amiga, AmigaHd, C1541, C1541Forty, C1571, AppleDo, ApplePo, AppleDos33, AppleProdos, Mac400, Mac800, Numbered}
+use Rattle.sector_images.specs.declared.format.Format.TheVariants.{Ibm3740, Ibm360, Ibm720, Ibm1440}
+use Rattle.sector_images.specs.declared.format.Format.TheVariants.{Amiga, AmigaHd, C1541}
+use Rattle.sector_images.specs.declared.format.Format.TheVariants.{C1541Forty, C1571, AppleDo}
+use Rattle.sector_images.specs.declared.format.Format.TheVariants.{ApplePo, AppleDos33, AppleProdos}
+use Rattle.sector_images.specs.declared.format.Format.TheVariants.{Mac400, Mac800, Numbered}
 use Rattle.flux_help.specs.Verbs.{verb_texts, verbs}
 use Rattle.flux_help.specs.declared.page.Page.{Page}
 use Rattle.flux_help.specs.declared.page.Page.TheVariants.{Help, Version, About}
-use Rattle.flux_help.specs.declared.texts.TheConstants.{VERSION, INTRO, HEADING, CODES, IBM_3740_DISK, IBM_360_DISK, IBM_720_DISK, IBM_1440_DISK, AMIGA_DISK, AMIGA_HD_DISK, C1541_DISK, C1541_FORTY_DISK, C1571_DISK, APPLE_DO_DISK, APPLE_PO_DISK, APPLE_DOS33_DISK, APPLE_PRODOS_DISK, MAC_400_DISK, MAC_800_DISK}
+use Rattle.flux_help.specs.declared.texts.TheConstants.{VERSION, INTRO, HEADING, CODES}
+use Rattle.flux_help.specs.declared.texts.TheConstants.{IBM_3740_DISK, IBM_360_DISK, IBM_720_DISK}
+use Rattle.flux_help.specs.declared.texts.TheConstants.{IBM_1440_DISK, AMIGA_DISK, AMIGA_HD_DISK}
+use Rattle.flux_help.specs.declared.texts.TheConstants.{C1541_DISK, C1541_FORTY_DISK, C1571_DISK}
+use Rattle.flux_help.specs.declared.texts.TheConstants.{APPLE_DO_DISK, APPLE_PO_DISK}
+use Rattle.flux_help.specs.declared.texts.TheConstants.{APPLE_DOS33_DISK, APPLE_PRODOS_DISK}
+use Rattle.flux_help.specs.declared.texts.TheConstants.{MAC_400_DISK, MAC_800_DISK}
 use Rattle.flux_help.specs.declared.verb.Verb.{Verb}
 
 -- a line for each command
 abbrev pub verbs_text : List ℕ
 verbs_text = flat_map (λ verb. (verb_texts verb).line.now) verbs
 
--- what people call a format's disk, its cylinders, its heads where there are two, and the sectors of a track
+-- what people call a format's disk, its cylinders, its heads where there are
+-- two, and the sectors of a track
 unfoldable pub disk_name : Format → List ℕ
 disk_name Ibm3740 = IBM_3740_DISK.now
 disk_name Ibm360 = IBM_360_DISK.now
@@ -35,7 +46,8 @@ disk_name (Numbered disk) = disk_label disk
 
 -- a word, a disk's name and a number of bytes in one line
 unfoldable pub disk_text : (word name : List ℕ) → (bytes : ℕ) → List ℕ
-disk_text word name bytes = codes "   " ++ word ++ codes "\t" ++ name ++ codes ", " ++ decimal bytes ++ codes " bytes\n"
+disk_text word name bytes =
+    codes "   " ++ word ++ codes "\t" ++ name ++ codes ", " ++ decimal bytes ++ codes " bytes\n"
 
 -- the line of a format: its word, its disk, and how many bytes its image has
 unfoldable pub format_text : Format → List ℕ

@@ -1,20 +1,25 @@
 -- Why numbers are no disk's (own): the first of them that does not fit.
-use Rattle.std.specs.Prelude.{◌≡◌, ◌↔◌, ℕ, ◌+◌, ◌-◌, ◌&&◌, Bool, not, is_some, nat_eq, nat_le, List, [], ◌∷◌, ◌++◌, codes, decimal, find, Option, None}
+use Rattle.std.specs.Prelude.{◌≡◌, ◌↔◌, ℕ, ◌+◌, ◌-◌, ◌&&◌, Bool, not, is_some, nat_eq, nat_le, List}
+use Rattle.std.specs.Prelude.{[], ◌∷◌, ◌++◌, codes, decimal, find, Option, None}
 use Rattle.std.specs.Option.{option_and_then}
 use Rattle.ibm_disks.specs.Disks.{IsDiskOf, are_few}
 use Rattle.ibm_disks.specs.Numbers.{size_of}
 use Rattle.ibm_disks.specs.Plans.{track_bytes, track_of}
 use Rattle.ibm_disks.specs.declared.disk.IbmDisk.{IbmDisk}
 use Rattle.ibm_disks.specs.declared.sector_size.SectorSize.{SectorSize}
-use Rattle.ibm_disks.specs.declared.sector_size.SectorSize.TheVariants.{Bytes128, Bytes256, Bytes512, Bytes1024}
+use Rattle.ibm_disks.specs.declared.sector_size.SectorSize.TheVariants.{Bytes128, Bytes256}
+use Rattle.ibm_disks.specs.declared.sector_size.SectorSize.TheVariants.{Bytes512, Bytes1024}
 use Rattle.ibm_disks.specs.declared.word.DiskNumbers.{DiskNumbers}
-use Rattle.flux_help.specs.declared.unfit.TheConstants.{CYLINDERS_ARE, HEADS_ARE, SECTORS_ARE, SECTOR_BYTES_ARE, LAST_SECTOR_IS}
+use Rattle.flux_help.specs.declared.unfit.TheConstants.{CYLINDERS_ARE, HEADS_ARE, SECTORS_ARE}
+use Rattle.flux_help.specs.declared.unfit.TheConstants.{SECTOR_BYTES_ARE, LAST_SECTOR_IS}
 use Rattle.flux_help.specs.declared.unfit.Unfit.{Unfit}
-use Rattle.flux_help.specs.declared.unfit.Unfit.TheVariants.{Cylinders, Heads, Sectors, SectorBytes, LastSector, Track}
+use Rattle.flux_help.specs.declared.unfit.Unfit.TheVariants.{Cylinders, Heads, Sectors, SectorBytes}
+use Rattle.flux_help.specs.declared.unfit.Unfit.TheVariants.{LastSector, Track}
 
 -- the size of so many bytes
 abbrev pub size_with : ℕ → Option SectorSize
-size_with bytes = find (λ size. nat_eq (size_of size) bytes) (Bytes128 ∷ Bytes256 ∷ Bytes512 ∷ Bytes1024 ∷ [])
+size_with bytes =
+    find (λ size. nat_eq (size_of size) bytes) (Bytes128 ∷ Bytes256 ∷ Bytes512 ∷ Bytes1024 ∷ [])
 
 -- the number of the last sector
 abbrev pub last_sector : DiskNumbers → ℕ
@@ -27,7 +32,8 @@ fits n Heads = are_few 1 n.heads
 fits n Sectors = nat_le 1 n.sectors && nat_le n.sectors 32
 fits n SectorBytes = is_some (size_with n.sector_bytes)
 fits n LastSector = nat_le (last_sector n) 255
-fits n Track = is_some (option_and_then (track_of n.rate n.sectors n.first_sector) (size_with n.sector_bytes))
+fits n Track =
+    is_some (option_and_then (track_of n.rate n.sectors n.first_sector) (size_with n.sector_bytes))
 
 -- the first of some that does not
 abbrev pub first_of : List Unfit → DiskNumbers → Option Unfit
@@ -47,7 +53,8 @@ last_sector_text n = LAST_SECTOR_IS.now ++ decimal (last_sector n)
 
 abbrev pub track_text : DiskNumbers → List ℕ
 track_text n =
-    decimal n.sectors ++ codes " sectors of " ++ decimal n.sector_bytes ++ codes " bytes do not fit on a track of "
+    decimal n.sectors ++ codes " sectors of " ++ decimal n.sector_bytes
+    ++ codes " bytes do not fit on a track of "
     ++ decimal (track_bytes n.rate)
 
 abbrev pub unfit_text : Unfit → DiskNumbers → List ℕ

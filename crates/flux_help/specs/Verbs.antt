@@ -4,14 +4,20 @@ use Rattle.std.specs.Prelude.{ℕ, List, [], ◌∷◌, Bool, true, false, codes
 use Rattle.std.specs.List.{position_from, slice_get}
 use Rattle.std.specs.Option.{option_and_then}
 use Rattle.std.specs.Str.{bytes_eq}
-use Rattle.flux_help.specs.declared.verb.TheConstants.{IDENTIFY, READ, SHOW, DECODE_FOLDER, DECODE_SET, RESCUE, DECODE, REPORT, MAP, WRITE, TURNS, TO_G64, FROM_G64, TRIAL, HELP}
+use Rattle.flux_help.specs.declared.verb.TheConstants.{IDENTIFY, READ, SHOW, DECODE_FOLDER}
+use Rattle.flux_help.specs.declared.verb.TheConstants.{DECODE_SET, RESCUE, DECODE, REPORT, MAP}
+use Rattle.flux_help.specs.declared.verb.TheConstants.{WRITE, TURNS, TO_G64, FROM_G64, TRIAL, HELP}
 use Rattle.flux_help.specs.declared.verb.Texts.{Texts}
 use Rattle.flux_help.specs.declared.verb.Verb.{Verb}
-use Rattle.flux_help.specs.declared.verb.Verb.TheVariants.{Identify, Read, Show, DecodeFolder, DecodeSet, Rescue, Decode, Report, Map, Write, Turns, ToG64, FromG64, Trial, Help}
+use Rattle.flux_help.specs.declared.verb.Verb.TheVariants.{Identify, Read, Show, DecodeFolder}
+use Rattle.flux_help.specs.declared.verb.Verb.TheVariants.{DecodeSet, Rescue, Decode, Report, Map}
+use Rattle.flux_help.specs.declared.verb.Verb.TheVariants.{Write, Turns, ToG64, FromG64, Trial}
+use Rattle.flux_help.specs.declared.verb.Verb.TheVariants.{Help}
 
 -- all commands, in the order in which the help lists them
 abbrev pub verbs : List Verb
-verbs = Identify ∷ Read ∷ Show ∷ DecodeFolder ∷ DecodeSet ∷ Rescue ∷ Decode ∷ Report ∷ Map ∷ Write ∷ Turns ∷ ToG64 ∷ FromG64 ∷ Trial ∷ Help ∷ []
+verbs = Identify ∷ Read ∷ Show ∷ DecodeFolder ∷ DecodeSet ∷ Rescue ∷ Decode ∷ Report ∷ Map ∷ Write
+    ∷ Turns ∷ ToG64 ∷ FromG64 ∷ Trial ∷ Help ∷ []
 
 -- its first word
 unfoldable pub verb_word : Verb → List ℕ
@@ -66,7 +72,8 @@ is_own Map = true
 is_own Help = true
 is_own _ = false
 
--- a format is the first word behind it that is no option; behind `show` that may be the number of a content
+-- a format is the first word behind it that is no option; behind `show` that
+-- may be the number of a content
 abbrev pub asks_format : Verb → Bool
 asks_format Identify = false
 asks_format Show = false

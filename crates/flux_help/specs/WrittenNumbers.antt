@@ -1,12 +1,15 @@
--- The numbers of a disk that a word writes: those of its digits, where it is the word that writes them.
-use Rattle.std.specs.Prelude.{ℕ, ◌&&◌, ◌||◌, Bool, not, nat_eq, nat_lt, List, [], ◌∷◌, ◌++◌, decimal, drop, find, get_or, length, map, Option}
+-- The numbers of a disk that a word writes: those of its digits, where it
+-- is the word that writes them.
+use Rattle.std.specs.Prelude.{ℕ, ◌&&◌, ◌||◌, Bool, not, nat_eq, nat_lt, List, [], ◌∷◌, ◌++◌}
+use Rattle.std.specs.Prelude.{decimal, drop, find, get_or, length, map, Option}
 use Rattle.std.specs.Char.{digit_value}
 use Rattle.std.specs.List.{slice_split}
 use Rattle.std.specs.Str.{bytes_eq}
 use Rattle.std.specs.Str.Parse.{digits_value}
 use Rattle.ibm_disks.specs.Words.{density_word, rate_word}
 use Rattle.ibm_disks.specs.declared.rate.Rate.{Rate}
-use Rattle.ibm_disks.specs.declared.rate.Rate.TheVariants.{Double, High, HighAt360, Single, SingleAt360}
+use Rattle.ibm_disks.specs.declared.rate.Rate.TheVariants.{Double, High, HighAt360, Single}
+use Rattle.ibm_disks.specs.declared.rate.Rate.TheVariants.{SingleAt360}
 use Rattle.ibm_disks.specs.declared.word.DiskNumbers.{DiskNumbers}
 
 -- how the words of a rate begin
@@ -16,7 +19,9 @@ rate_front rate = density_word rate ++ 45 ∷ (rate_word rate ++ 45 ∷ [])
 -- the word that writes numbers, with what stands behind the sectors of a track
 abbrev pub word_with : DiskNumbers → List ℕ → List ℕ
 word_with n last =
-    rate_front n.rate ++ (decimal n.cylinders ++ 120 ∷ (decimal n.heads ++ 120 ∷ (decimal n.sectors ++ 120 ∷ last)))
+    rate_front n.rate
+    ++ (decimal n.cylinders ++ 120
+    ∷ (decimal n.heads ++ 120 ∷ (decimal n.sectors ++ 120 ∷ last)))
 
 -- it is the word of these numbers: that of the first sector may be left out where it is 1
 abbrev pub writes : List ℕ → DiskNumbers → Bool
@@ -27,7 +32,8 @@ writes word n =
 -- they have at most four digits each
 abbrev pub are_short : DiskNumbers → Bool
 are_short n =
-    nat_lt n.cylinders 10000 && nat_lt n.heads 10000 && nat_lt n.sectors 10000 && nat_lt n.sector_bytes 10000
+    nat_lt n.cylinders 10000 && nat_lt n.heads 10000 && nat_lt n.sectors 10000
+    && nat_lt n.sector_bytes 10000
     && nat_lt n.first_sector 10000
 
 -- the numbers that digits write, between whatever is none

@@ -1,5 +1,6 @@
 -- What is told of words that are no command.
-use Rattle.std.specs.Prelude.{ℕ, List, [], ◌∷◌, ◌++◌, ◌&&◌, Bool, false, codes, if◌then◌else◌, nat_eq, not, Option, Some, None, is_some}
+use Rattle.std.specs.Prelude.{ℕ, List, [], ◌∷◌, ◌++◌, ◌&&◌, Bool, false, codes, if◌then◌else◌}
+use Rattle.std.specs.Prelude.{nat_eq, not, Option, Some, None, is_some}
 use Rattle.std.specs.List.{position_from, slice_get}
 use Rattle.std.specs.Option.{option_and_then}
 use Rattle.std.specs.Str.{bytes_eq}
@@ -15,7 +16,8 @@ use Rattle.flux_help.specs.WrittenNumbers.{written_numbers}
 use Rattle.flux_help.specs.declared.unfit.Unfit.{Unfit}
 use Rattle.flux_help.specs.declared.verb.Verb.{Verb}
 
--- what follows the first word where it is one of those that the usage line does not name; else the usage line
+-- what follows the first word where it is one of those that the usage line does
+-- not name; else the usage line
 abbrev pub usage_by : Option Verb → List ℕ
 usage_by None = usage_text
 usage_by (Some verb) = if is_own verb then (verb_texts verb).usage.now else usage_text
@@ -32,7 +34,8 @@ has_format_word word format = bytes_eq (row format).word word
 abbrev pub is_named : List ℕ → Bool
 is_named word = is_some (position_from (has_format_word word) 0 formats)
 
--- the end of the line on a word that begins as those do that write a disk's numbers: which of its numbers does not fit
+-- the end of the line on a word that begins as those do that write a disk's numbers:
+-- which of its numbers does not fit
 abbrev pub unfit_ending : DiskNumbers → Option Unfit → Option (List ℕ)
 unfit_ending n None = None
 unfit_ending n (Some number) = Some (codes "; " ++ (unfit_text number n ++ codes "\n"))
@@ -45,7 +48,8 @@ numbers_ending (Some n) = unfit_ending n (first_unfit n)
 abbrev pub ending_of : List ℕ → Option (List ℕ)
 ending_of word =
     if is_named word then None
-    else (if begins_numbers word then numbers_ending (written_numbers word) else Some (no_format_ending word))
+    else (if begins_numbers word then numbers_ending (written_numbers word)
+    else Some (no_format_ending word))
 
 -- an option begins with a minus
 abbrev pub is_option : List ℕ → Bool
@@ -54,7 +58,8 @@ is_option (byte ∷ bytes) = nat_eq byte 45
 
 -- the word in a format's place: of those behind the command's the first that is no option
 abbrev pub format_word : List (List ℕ) → Option (List ℕ)
-format_word words = option_and_then (slice_get words) (position_from (λ word. not (is_option word)) 0 words)
+format_word words =
+    option_and_then (slice_get words) (position_from (λ word. not (is_option word)) 0 words)
 
 -- the end of what is told of it where a format's word should stand
 abbrev pub ending_behind : Option Verb → List ℕ → Option (List ℕ)

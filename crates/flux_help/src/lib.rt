@@ -1,4 +1,5 @@
-//! What the program says of itself: its commands, its formats and its exit codes, its version, and which of its words are wrong.
+//! What the program says of itself: its commands, its formats and its exit codes, its version, and
+//! which of its words are wrong.
 #![tactic(auto)]
 
 mod meanings;

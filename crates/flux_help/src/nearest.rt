@@ -1,5 +1,5 @@
-ghost use Rattle.std.specs.Prelude.{◌≡◌, ◌<◌, count_by, length, nat_eq};
-ghost use Rattle.flux_help.specs.Nearest.{differing, is_shared, nearer, nearest, shared};
+ghost use Rattle.std.specs.Prelude.{◌≡◌, ◌<◌, cond, count_by, length, nat_eq};
+ghost use Rattle.flux_help.specs.Nearest.{differing, is_nearer, is_shared, nearest, shared};
 ghost use Rattle.sector_images.specs.Formats.{row};
 
 use sector_images::{Format, all_formats};
@@ -17,7 +17,7 @@ pub fn nearest_format(word: &[u8]) -> Format
 
 /// The first of two formats where its word differs less, and else the second.
 fn nearer(format: Format, best: Format, word: &[u8]) -> Format
-    ensures { result ≡ nearer word.now best format }
+    ensures { result ≡ cond (is_nearer word.now format best) format best }
 {
     if differing(format, word) < differing(best, word) {
         format

@@ -4,8 +4,9 @@ ghost use Rattle.flux_help.specs.Pages.{disk_name, disk_text, format_text};
 use sector_images::{Format, image_size};
 use sector_report::{Line, put, put_named};
 
-/// The version, as `CHANGELOG.md` counts it, the commit, and the logic by which the toolchain proves it. No source can
-/// hold the name of its own commit: it comes into the program of a package in place of the forty bytes behind `commit `.
+/// The version, as `CHANGELOG.md` counts it, the commit, and the logic by which the toolchain proves it.
+/// No source can hold the name of its own commit: it comes into the program of a package in place of the
+/// forty bytes behind `commit `.
 pub(crate) const VERSION: &str = "\
 flux 0.4.0
 commit unknown: built by hand, not of a package

@@ -303,7 +303,8 @@ impl Verb {
         )
     }
 
-    /// Whether a format is the first word behind it that is no option. (Behind `show` that may be the number of `--copy`.)
+    /// Whether a format is the first word behind it that is no option. (Behind `show` that
+    /// may be the number of `--copy`.)
     pub(crate) fn asks_format(self) -> bool
         ensures { result ≡ asks_format self }
     {

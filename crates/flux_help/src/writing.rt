@@ -44,7 +44,8 @@ fn write_help<W: Sink>(sink: &mut W) -> Result<(), Failed>
 
 /// Writes the commands, the formats and the exit codes.
 fn write_lists<W: Sink>(sink: &mut W) -> Result<(), Failed>
-    ensures { Puts (sink_at W.Sink sink.old) (sink_at W.Sink sink.new) (verbs_text ++ (HEADING.now ++ (formats_text ++ CODES.now))) result }
+    ensures { Puts (sink_at W.Sink sink.old) (sink_at W.Sink sink.new)
+        (verbs_text ++ (HEADING.now ++ (formats_text ++ CODES.now))) result }
 {
     match write_verbs(sink) {
         Ok(()) => write_headed_tables(sink),
@@ -54,7 +55,8 @@ fn write_lists<W: Sink>(sink: &mut W) -> Result<(), Failed>
 
 /// Writes the formats and the exit codes, and what stands before them.
 fn write_headed_tables<W: Sink>(sink: &mut W) -> Result<(), Failed>
-    ensures { Puts (sink_at W.Sink sink.old) (sink_at W.Sink sink.new) (HEADING.now ++ (formats_text ++ CODES.now)) result }
+    ensures { Puts (sink_at W.Sink sink.old) (sink_at W.Sink sink.new) (HEADING.now ++ (formats_text ++ CODES.now))
+        result }
 {
     match write_whole(sink, HEADING.as_bytes()) {
         Ok(()) => write_tables(sink),

@@ -7,7 +7,8 @@ ghost use Rattle.ibm_disks.specs.Words.{begins_numbers};
 ghost use Rattle.sector_images.specs.Formats.{formats};
 ghost use Rattle.flux_help.specs.Meanings.{no_format_ending};
 ghost use Rattle.flux_help.specs.Nearest.{nearest_text};
-ghost use Rattle.flux_help.specs.WrongWords.{ending_behind, ending_of, format_word, has_format_word, is_named, is_option, told_by, usage_by, wants_format, wrong_text};
+ghost use Rattle.flux_help.specs.WrongWords.{ending_behind, ending_of, format_word, has_format_word, is_named};
+ghost use Rattle.flux_help.specs.WrongWords.{is_option, told_by, usage_by, wants_format, wrong_text};
 
 use crate::meanings::meaning_of;
 use crate::nearest::nearest_format;
@@ -157,7 +158,8 @@ fn has_word(format: Format, word: &[u8]) -> bool
 
 /// Writes that no format has this word, and the end of the line.
 fn write_no_format<N: Sink>(word: &[u8], ending: &Line, notes: &mut N) -> Result<(), Failed>
-    ensures { Puts (sink_at N.Sink notes.old) (sink_at N.Sink notes.new) (codes "no format " ++ (word.now ++ ending.now.bytes)) result }
+    ensures { Puts (sink_at N.Sink notes.old) (sink_at N.Sink notes.new)
+        (codes "no format " ++ (word.now ++ ending.now.bytes)) result }
 {
     match write_whole(notes, "no format ".as_bytes()) {
         Ok(()) => write_word(word, ending, notes),
