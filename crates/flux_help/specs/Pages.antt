@@ -5,7 +5,7 @@ use Rattle.sector_images.specs.Formats.{formats, row}
 use Rattle.sector_images.specs.declared.format.Format.{Format}
 use Rattle.sector_images.specs.declared.format.Format.TheVariants.{Ibm3740, Ibm360, Ibm720, Ibm1440}
 use Rattle.sector_images.specs.declared.format.Format.TheVariants.{Amiga, AmigaHd, C1541}
-use Rattle.sector_images.specs.declared.format.Format.TheVariants.{C1541Forty, C1571, AppleDo}
+use Rattle.sector_images.specs.declared.format.Format.TheVariants.{C1541Forty, C1571, C8050, C8250, C1581, AppleDo}
 use Rattle.sector_images.specs.declared.format.Format.TheVariants.{ApplePo, AppleDos33, AppleProdos}
 use Rattle.sector_images.specs.declared.format.Format.TheVariants.{Mac400, Mac800, Numbered}
 use Rattle.flux_help.specs.Verbs.{verb_texts, verbs}
@@ -15,6 +15,7 @@ use Rattle.flux_help.specs.declared.texts.TheConstants.{VERSION, INTRO, HEADING,
 use Rattle.flux_help.specs.declared.texts.TheConstants.{IBM_3740_DISK, IBM_360_DISK, IBM_720_DISK}
 use Rattle.flux_help.specs.declared.texts.TheConstants.{IBM_1440_DISK, AMIGA_DISK, AMIGA_HD_DISK}
 use Rattle.flux_help.specs.declared.texts.TheConstants.{C1541_DISK, C1541_FORTY_DISK, C1571_DISK}
+use Rattle.flux_help.specs.declared.texts.TheConstants.{C8050_DISK, C8250_DISK, C1581_DISK}
 use Rattle.flux_help.specs.declared.texts.TheConstants.{APPLE_DO_DISK, APPLE_PO_DISK}
 use Rattle.flux_help.specs.declared.texts.TheConstants.{APPLE_DOS33_DISK, APPLE_PRODOS_DISK}
 use Rattle.flux_help.specs.declared.texts.TheConstants.{MAC_400_DISK, MAC_800_DISK}
@@ -36,6 +37,9 @@ disk_name AmigaHd = AMIGA_HD_DISK.now
 disk_name C1541 = C1541_DISK.now
 disk_name C1541Forty = C1541_FORTY_DISK.now
 disk_name C1571 = C1571_DISK.now
+disk_name C8050 = C8050_DISK.now
+disk_name C8250 = C8250_DISK.now
+disk_name C1581 = C1581_DISK.now
 disk_name AppleDo = APPLE_DO_DISK.now
 disk_name ApplePo = APPLE_PO_DISK.now
 disk_name AppleDos33 = APPLE_DOS33_DISK.now

@@ -12,7 +12,7 @@ pub(crate) struct Meaning<T> {
 }
 
 /// All of them. A word that several disks have means the one that is most often met.
-const MEANINGS: [Meaning<&str>; 14] = [
+const MEANINGS: [Meaning<&str>; 16] = [
     Meaning {
         word: "adf",
         ending: "; try: amiga\n",
@@ -31,7 +31,15 @@ const MEANINGS: [Meaning<&str>; 14] = [
     },
     Meaning {
         word: "d81",
-        ending: "; a Commodore 1581's disks have none yet\n",
+        ending: "; try: c1581\n",
+    },
+    Meaning {
+        word: "d80",
+        ending: "; try: c8050\n",
+    },
+    Meaning {
+        word: "d82",
+        ending: "; try: c8250\n",
     },
     Meaning {
         word: "do",

@@ -63,6 +63,9 @@ const C1541_DISK: &str = "Commodore 1541, 35 cylinders, 21 to 17 sectors";
 const C1541_FORTY_DISK: &str = "Commodore 1541, 40 cylinders, 21 to 17 sectors";
 
 const C1571_DISK: &str = "Commodore 1571, 35 cylinders, 2 heads, 21 to 17 sectors";
+const C8050_DISK: &str = "Commodore 8050, 5.25-inch, 77 cylinders, 29 to 23 sectors";
+const C8250_DISK: &str = "Commodore 8250, 5.25-inch, 77 cylinders, 2 heads, 29 to 23 sectors";
+const C1581_DISK: &str = "Commodore 1581, 3.5-inch, 80 cylinders, 2 heads, 10 sectors";
 
 const APPLE_DO_DISK: &str =
     "Apple II, exact to the cell, in the order of DOS 3.3, 35 cylinders, 16 sectors";
@@ -122,6 +125,9 @@ fn disk_name(format: Format) -> &'static str
         Format::C1541 => C1541_DISK,
         Format::C1541Forty => C1541_FORTY_DISK,
         Format::C1571 => C1571_DISK,
+        Format::C8050 => C8050_DISK,
+        Format::C8250 => C8250_DISK,
+        Format::C1581 => C1581_DISK,
         Format::AppleDo => APPLE_DO_DISK,
         Format::ApplePo => APPLE_PO_DISK,
         Format::AppleDos33 => APPLE_DOS33_DISK,
