@@ -1,6 +1,6 @@
 -- What the words of `read` ask for.
 use Rattle.std.specs.Prelude.{if◌then◌else◌}
-use Rattle.std.proofs.Common.{◌≡◌, ◌≤◌, ◌+◌, ◌-◌, ℕ, Bool, true, false, List, [], ◌∷◌, ◌++◌, codes, drop, take, length, length-append, Option, Some, None, refl, sym, ap, ◌∙◌, subst, arith}
+use Rattle.std.proofs.Common.{◌≡◌, ◌≤◌, ◌+◌, ◌-◌, ℕ, Bool, true, false, List, [], ◌∷◌, ◌++◌, drop, take, length, length-append, Option, Some, None, refl, sym, ap, ◌∙◌, subst, arith}
 use Rattle.std.specs.Bool.{Decides, then_some}
 use Rattle.std.specs.Option.{option_map}
 use Rattle.std.specs.Str.{bytes_eq}
@@ -8,21 +8,11 @@ use Rattle.std.proofs.lemmas.List.{length-drop, take_all}
 use Rattle.std.proofs.lemmas.Slice.Eq.{bytes_eq-Decides}
 use Rattle.sector_images.specs.Formats.{IsWordOfFormat, WordsBeginWithLetters, WordsNameFormats}
 use Rattle.sector_images.specs.declared.format.Format.{Format}
-use Rattle.flux_words.specs.DumpParts.{IsNotFirst, NamesBehind, NamesWith, is_first, options_in}
-use Rattle.flux_words.specs.DumpWords.{AreReadable, Asked, CanBeRead, NamesDumps, double_step_word, option_words, picture_word, stepping_of}
+use Rattle.flux_words.specs.DumpParts.{NamesBehind, NamesWith, is_first, options_in}
+use Rattle.flux_words.specs.DumpWords.{AreReadable, Asked, CanBeRead, double_step_word, option_words, picture_word, stepping_of}
 use Rattle.flux_words.specs.lemmas.Options.{head-same, options-passed, options-read, tail-same}
 use Rattle.flux_words.specs.declared.dump_words.DumpOptions.{DumpOptions}
 use Rattle.flux_words.specs.declared.dump_words.DumpOptions.TheVariants.{Without, DoubleStep, Picture, PictureDoubleStep, DoubleStepPicture}
-
--- the command's word
-pub dumps-named : (words rest : List (List ℕ)) (r : Option Asked) → words ≡ codes "read" ∷ rest → NamesBehind rest r → NamesDumps words r
-dumps-named words rest None at names = λ asked can are.
-    names asked can (record { word = are.word; is = tail-same _ _ _ _ (sym at ∙ are.is); named = are.named })
-dumps-named words rest (Some asked) at names =
-    (record { word = names.0.word; is = at ∙ ap (λ later. codes "read" ∷ later) names.0.is; named = names.0.named }, names.1)
-
-pub dumps-unnamed : (words : List (List ℕ)) → IsNotFirst (codes "read") words → NamesDumps words None
-dumps-unnamed words other = λ asked can are. other _ are.is
 
 first-is : (word : List ℕ) (words : List (List ℕ)) → is_first word words ≡ true → words ≡ word ∷ drop 1 words
 first-is word [] is = absurd (cc)

@@ -1,3 +1,4 @@
 pub mod DumpWords
 pub mod SectorWords
 pub mod PeoplesWords
+pub mod CommandWords

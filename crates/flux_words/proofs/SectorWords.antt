@@ -9,7 +9,7 @@ use Rattle.track_shelf.specs.declared.stepping.Stepping.{Stepping}
 use Rattle.track_shelf.specs.declared.stepping.Stepping.TheVariants.{Single, Double}
 use Rattle.flux_words.specs.DumpParts.{IsNotFirst}
 use Rattle.flux_words.specs.DumpWords.{AreReadable, double_step_word}
-use Rattle.flux_words.specs.SectorWords.{AreCopyWords, AskedSector, CanBeShown, HasNumber, HasOptions, HasSteps, HasStepsBehind, IsAlone, IsFirst, NamesBehind, NamesBy, NamesCopy, NamesCopyFirst, NamesCopyNumber, NamesPlace, NamesSector, NamesShow, NamesStepped, NamesTrack, PlaceParts, ShowParts, behind_words, copy_first_words, copy_words, place_words, step_words, stepped_words}
+use Rattle.flux_words.specs.SectorWords.{AreCopyWords, AskedSector, CanBeShown, HasNumber, HasOptions, HasSteps, HasStepsBehind, IsAlone, IsFirst, NamesBehind, NamesBy, NamesCopy, NamesCopyFirst, NamesCopyNumber, NamesPlace, NamesSector, NamesStepped, NamesTrack, PlaceParts, ShowParts, behind_words, copy_first_words, copy_words, place_words, step_words, stepped_words}
 use Rattle.flux_words.specs.lemmas.Options.{head-same, no_option, tail-same}
 use Rattle.flux_words.proofs.DumpWords.{slice-rest}
 
@@ -33,14 +33,6 @@ copy_is_no_step same =
     omega (arith, third)
 
 module _ (words : List (List ℕ)) where
-  -- the command's word
-  pub show-named : (rest : List (List ℕ)) (r : Option AskedSector) → words ≡ codes "show" ∷ rest → NamesBehind rest r → NamesShow words r
-  show-named rest None at names = λ asked fits can parts is. names asked fits can parts (tail-same _ _ _ _ (sym at ∙ is))
-  show-named rest (Some asked) at names = (tt, names.1, (names.2.0, at ∙ ap (λ later. codes "show" ∷ later) names.2.1))
-
-  pub show-unnamed : IsNotFirst (codes "show") words → NamesShow words None
-  show-unnamed other = λ asked fits can parts is. other _ is
-
   -- the steps stand where they are asked for
   steps : (later : List (List ℕ)) (asked : AskedSector) (stepping : Stepping) → asked.stepping ≡ stepping
       → step_words asked.stepping ++ later ≡ step_words stepping ++ later

@@ -1,7 +1,6 @@
 -- The words that ask to read dumps of a disk.
-use Rattle.std.specs.Prelude.{◌≡◌, ◌≤◌, ℕ, Bool, true, false, List, [], ◌∷◌, ◌++◌, length, codes, Option, Some, None}
+use Rattle.std.specs.Prelude.{◌≡◌, ◌≤◌, ℕ, Bool, true, false, List, [], ◌∷◌, length, codes}
 use Rattle.std.specs.List.{list_any}
-use Rattle.sector_images.specs.Formats.{IsWordOfFormat}
 use Rattle.sector_images.specs.declared.format.Format.{Format}
 use Rattle.track_shelf.specs.Stepping.{reaches_all}
 use Rattle.track_shelf.specs.declared.stepping.Stepping.{Stepping}
@@ -51,11 +50,6 @@ option_words Picture = picture_word ∷ []
 option_words PictureDoubleStep = picture_word ∷ double_step_word ∷ []
 option_words DoubleStepPicture = double_step_word ∷ picture_word ∷ []
 
-pub record AreReadWords (asked : Asked) (words : List (List ℕ)) : Type 0 where
-  pub word : List ℕ
-  pub is : words ≡ codes "read" ∷ (option_words asked.options ++ (word ∷ asked.dumps))
-  pub named : IsWordOfFormat word asked.format
-
 -- most dumps of a disk
 abbrev pub MOST_DUMPS : ℕ
 MOST_DUMPS = 8
@@ -73,8 +67,3 @@ pub record AreReadable (dumps : List (List ℕ)) (stepping : Stepping) (format :
 
 abbrev pub CanBeRead : Asked → Type 0
 CanBeRead asked = AreReadable asked.dumps (stepping_of asked.options) asked.format
-
--- what the words ask of dumps, if they ask for that
-abbrev pub NamesDumps : List (List ℕ) → Option Asked → Type 0
-NamesDumps words (Some asked) = AreReadWords asked words × CanBeRead asked
-NamesDumps words None = (asked : Asked) → CanBeRead asked → ¬ AreReadWords asked words

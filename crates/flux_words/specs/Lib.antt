@@ -1,11 +1,9 @@
 pub mod G64Disks
 pub mod Seeds
 pub mod Counts
-pub mod FormatWords
-pub mod Commands
-pub mod FolderWords
+pub mod Asked
+pub mod CommandWords
 pub mod DumpWords
 pub mod DumpParts
-pub mod IdentityWords
 pub mod SectorWords
 pub mod lemmas

@@ -120,10 +120,6 @@ copy_first_words asked parts = parts.copy ++ stepped_words asked parts.place
 abbrev pub behind_words : (asked : AskedSector) → ShowParts asked → List (List ℕ)
 behind_words asked parts = if parts.copy_first then copy_first_words asked parts else step_words asked.stepping ++ copy_words asked parts
 
--- and the command's before them
-abbrev pub show_words : (asked : AskedSector) → ShowParts asked → List (List ℕ)
-show_words asked parts = codes "show" ∷ behind_words asked parts
-
 abbrev pub CanBeShown : AskedSector → Type 0
 CanBeShown asked = AreReadable asked.dumps asked.stepping asked.format
 
@@ -132,11 +128,7 @@ abbrev pub NamesBy : {Parts : AskedSector → Type 0} → (text : (asked : Asked
 NamesBy {Parts} text Fits words (Some asked) = Fits asked × CanBeShown asked × ((parts : Parts asked) × (words ≡ text asked parts))
 NamesBy {Parts} text Fits words None = (asked : AskedSector) → Fits asked → CanBeShown asked → (parts : Parts asked) → words ≢ text asked parts
 
--- what the words of the command line ask for
-abbrev pub NamesShow : List (List ℕ) → Option AskedSector → Type 0
-NamesShow words asked = NamesBy show_words (λ _. Unit {0}) words asked
-
--- those behind the command's
+-- what the words behind the verb's ask for
 abbrev pub NamesBehind : List (List ℕ) → Option AskedSector → Type 0
 NamesBehind words asked = NamesBy behind_words (λ _. Unit {0}) words asked
 

@@ -5,7 +5,7 @@ ghost use Rattle.std.specs.Bool.{Decides};
 ghost use Rattle.std.specs.List.{list_any};
 ghost use Rattle.std.specs.Option.{option_map};
 ghost use Rattle.flux_words.specs.DumpParts.{IsNotFirst, NamesBehind, NamesWith, is_first, options_in};
-ghost use Rattle.flux_words.specs.DumpWords.{AreReadable, NamesDumps, asked_of, is_nameless, option_words, shown_of, stepping_of};
+ghost use Rattle.flux_words.specs.DumpWords.{AreReadable, asked_of, is_nameless, option_words, shown_of, stepping_of};
 
 use flux_base::Word;
 use sector_images::{Format, words_name_formats};
@@ -79,16 +79,6 @@ pub struct DumpsAsked<'a> {
     pub format: Format,
 }
 
-/// What the words ask of dumps, if they ask for that: `read [--picture] [--double-step] FORMAT DUMP...`, with the options in either order.
-pub fn dumps_of(words: &[Word]) -> Option<DumpsAsked<'_>>
-    ensures { NamesDumps words.now (option_map asked_of result) }
-{
-    match behind(words, b"read") {
-        Some(rest) => asked_behind(rest),
-        None => None,
-    }
-}
-
 /// The words behind the first one, where that is this.
 pub(crate) fn behind<'a>(words: &'a [Word], first: &[u8]) -> Option<&'a [Word]>
     ensures there { IfSome result (λ rest. words.now ≡ first.now ∷ rest.now) }
@@ -104,8 +94,8 @@ pub(crate) fn behind<'a>(words: &'a [Word], first: &[u8]) -> Option<&'a [Word]>
     }
 }
 
-/// What the words behind the command's ask for.
-fn asked_behind(words: &[Word]) -> Option<DumpsAsked<'_>>
+/// What the words behind the verb's ask for: `[--picture] [--double-step] FORMAT DUMP...`, with the options in either order.
+pub(crate) fn asked_behind(words: &[Word]) -> Option<DumpsAsked<'_>>
     ensures { NamesBehind words.now (option_map asked_of result) }
 {
     words_name_formats();

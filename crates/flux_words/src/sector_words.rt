@@ -3,7 +3,7 @@
 ghost use Rattle.std.specs.Prelude.{◌≡◌, ◌≢◌, ◌<◌, ◌≤◌, ◌-◌, ◌++◌, ℕ, IfSome, List, MatchOption, Some, decimal, length};
 ghost use Rattle.std.specs.Bool.{Decides};
 ghost use Rattle.std.specs.Option.{option_map};
-ghost use Rattle.flux_words.specs.SectorWords.{AreDigitsOf, HasNumber, IsSectorWord, IsTrackWord, NamesBehind, NamesCopy, NamesCopyFirst, NamesCopyNumber, NamesPlace, NamesSector, NamesShow, NamesStepped, NamesTrack, ReportsNameThem, asked_sector};
+ghost use Rattle.flux_words.specs.SectorWords.{AreDigitsOf, HasNumber, IsSectorWord, IsTrackWord, NamesBehind, NamesCopy, NamesCopyFirst, NamesCopyNumber, NamesPlace, NamesSector, NamesStepped, NamesTrack, ReportsNameThem, asked_sector};
 ghost use Rattle.disk_recordings.specs.TrackSectors.{sectors_of as sectors_in, track_at};
 ghost use Rattle.sector_images.specs.Places.{tracks};
 
@@ -38,19 +38,9 @@ pub struct ShowAsked<'a> {
     pub dumps: &'a [Word],
 }
 
-/// What the words ask of a sector, if they ask for that: `show [--double-step] [--copy N] FORMAT TRACK SECTOR DUMP...`, with the options in
-/// either order, and the track and the sector as people write them: `5.1` or `05.1`, and `4`, `04` or `004`.
-pub fn sector_of(words: &[Word]) -> Option<ShowAsked<'_>>
-    ensures { NamesShow words.now (option_map asked_sector result) }
-{
-    match behind(words, b"show") {
-        Some(rest) => asked_behind(rest),
-        None => None,
-    }
-}
-
-/// What the words behind the command's ask for.
-fn asked_behind(words: &[Word]) -> Option<ShowAsked<'_>>
+/// What the words behind the verb's ask for: `[--double-step] [--copy N] FORMAT TRACK SECTOR DUMP...`, with the options in either
+/// order, and the track and the sector as people write them: `5.1` or `05.1`, and `4`, `04` or `004`.
+pub(crate) fn asked_behind(words: &[Word]) -> Option<ShowAsked<'_>>
     ensures { NamesBehind words.now (option_map asked_sector result) }
 {
     words_name_formats();

@@ -1,0 +1,198 @@
+//! What the words behind each verb's ask for.
+
+ghost use Rattle.std.specs.Prelude.{◌≡◌, ◌⊎◌, ℕ, List, IfNone, IfSome};
+ghost use Rattle.std.specs.Option.{option_map};
+ghost use Rattle.flux_help.specs.declared.verb.Verb.TheVariants.{DecodeFolder, DecodeSet, FromG64, Help, Identify, Read, Show, ToG64, Trial, Turns, Write};
+ghost use Rattle.flux_words.specs.Asked.{asked_of};
+ghost use Rattle.flux_words.specs.CommandWords.{AreStreams, AskBehind, IsAsked, IsFormat, IsFormatWith};
+ghost use Rattle.flux_words.specs.G64Disks.{format_of};
+ghost use Rattle.flux_words.specs.declared.g64_disk.G64Disk.{G64Disk as Disk};
+ghost use Rattle.sector_images.specs.declared.format.Format.{Format as Kind};
+
+use crate::commands::{Command, Output, StreamsAsked, Way};
+use crate::count::count_of;
+use crate::g64_disk::G64Disk;
+use crate::seed::seed_of;
+use crate::{dump_words, sector_words};
+use flux_base::Word;
+use flux_help::{Page, Verb};
+use sector_images::{Format, words_name_formats};
+
+/// A format alone.
+fn format_in(others: &[Word]) -> Option<Format>
+    ensures some { IfSome result (λ format. IsFormat format others.now) }
+    ensures none { IfNone result ((format : Kind) → ¬ IsFormat format others.now) }
+{
+    match others {
+        [word] => Format::of_word(word.bytes()),
+        _ => None,
+    }
+}
+
+/// A format and a last word.
+fn format_with(others: &[Word]) -> Option<(Format, &Word)>
+    ensures some { IfSome result (λ named. IsFormatWith named.0 named.1.now others.now) }
+    ensures none { IfNone result ((format : Kind) (last : List ℕ) → ¬ IsFormatWith format last others.now) }
+{
+    match others {
+        [word, last] => match Format::of_word(word.bytes()) {
+            Some(format) => Some((format, last)),
+            None => None,
+        },
+        _ => None,
+    }
+}
+
+/// A format alone, of a disk that there are G64 files of.
+fn disk_in(others: &[Word]) -> Option<G64Disk>
+    ensures some { IfSome result (λ disk. IsFormat (format_of disk) others.now) }
+    ensures none { IfNone result ((disk : Disk) → ¬ IsFormat (format_of disk) others.now) }
+{
+    words_name_formats();
+    match format_in(others) {
+        Some(format) => G64Disk::of_format(format),
+        None => None,
+    }
+}
+
+pub(crate) fn turns_behind(others: &[Word]) -> Option<Command<'_>>
+    ensures { AskBehind Turns others.now (option_map asked_of result) }
+{
+    if others.is_empty() {
+        Some(Command::Turns)
+    } else {
+        None
+    }
+}
+
+/// Streams that are read in this way, to this output.
+pub(crate) fn streams_behind(way: Way, output: Output, others: &[Word]) -> Option<Command<'_>>
+    ensures { IsAsked (AreStreams way output others.now) (option_map asked_of result) }
+{
+    match format_in(others) {
+        Some(format) => Some(Command::Streams(StreamsAsked {
+            format,
+            way,
+            output,
+        })),
+        None => None,
+    }
+}
+
+pub(crate) fn set_behind(others: &[Word]) -> Option<Command<'_>>
+    ensures { AskBehind DecodeSet others.now (option_map asked_of result) }
+{
+    words_name_formats();
+    let Some((format, number)) = format_with(others) else {
+        return None;
+    };
+    match count_of(number.bytes()) {
+        Some(count) => Some(Command::Streams(StreamsAsked {
+            format,
+            way: Way::Often(count),
+            output: Output::ImageAndReport,
+        })),
+        None => None,
+    }
+}
+
+pub(crate) fn folder_behind(others: &[Word]) -> Option<Command<'_>>
+    ensures { AskBehind DecodeFolder others.now (option_map asked_of result) }
+{
+    words_name_formats();
+    let Some((format, folder)) = format_with(others) else {
+        return None;
+    };
+    if folder.bytes().is_empty() {
+        None
+    } else {
+        Some(Command::Folder(format, folder))
+    }
+}
+
+pub(crate) fn dumps_behind(others: &[Word]) -> Option<Command<'_>>
+    ensures { AskBehind Read others.now (option_map asked_of result) }
+{
+    match dump_words::asked_behind(others) {
+        Some(asked) => Some(Command::Dumps(asked)),
+        None => None,
+    }
+}
+
+pub(crate) fn sector_behind(others: &[Word]) -> Option<Command<'_>>
+    ensures { AskBehind Show others.now (option_map asked_of result) }
+{
+    match sector_words::asked_behind(others) {
+        Some(asked) => Some(Command::Sector(asked)),
+        None => None,
+    }
+}
+
+pub(crate) fn dump_behind(others: &[Word]) -> Option<Command<'_>>
+    ensures { AskBehind Identify others.now (option_map asked_of result) }
+{
+    match others {
+        [dump] => {
+            if dump.bytes().is_empty() {
+                None
+            } else {
+                Some(Command::Identify(dump))
+            }
+        }
+        _ => None,
+    }
+}
+
+pub(crate) fn write_behind(others: &[Word]) -> Option<Command<'_>>
+    ensures { AskBehind Write others.now (option_map asked_of result) }
+{
+    match format_in(others) {
+        Some(format) => Some(Command::Write(format)),
+        None => None,
+    }
+}
+
+pub(crate) fn trial_behind(others: &[Word]) -> Option<Command<'_>>
+    ensures { AskBehind Trial others.now (option_map asked_of result) }
+{
+    words_name_formats();
+    let Some((format, number)) = format_with(others) else {
+        return None;
+    };
+    match seed_of(number.bytes()) {
+        Some(seed) => Some(Command::Trial(format, seed)),
+        None => None,
+    }
+}
+
+pub(crate) fn to_g64_behind(others: &[Word]) -> Option<Command<'_>>
+    ensures { AskBehind ToG64 others.now (option_map asked_of result) }
+{
+    match disk_in(others) {
+        Some(disk) => Some(Command::ToG64(disk)),
+        None => None,
+    }
+}
+
+pub(crate) fn from_g64_behind(others: &[Word]) -> Option<Command<'_>>
+    ensures { AskBehind FromG64 others.now (option_map asked_of result) }
+{
+    match disk_in(others) {
+        Some(disk) => Some(Command::FromG64(disk)),
+        None => None,
+    }
+}
+
+/// All that the program says of itself, or what it says of one command.
+pub(crate) fn page_behind(others: &[Word]) -> Option<Command<'_>>
+    ensures { AskBehind Help others.now (option_map asked_of result) }
+{
+    match others {
+        [] => Some(Command::Tell(Page::Help)),
+        [word] => match Verb::of_word(word.bytes()) {
+            Some(verb) => Some(Command::Tell(Page::About(verb))),
+            None => None,
+        },
+        _ => None,
+    }
+}
