@@ -1,21 +1,16 @@
 -- The counts of all objects of a run, from those of the objects that a command has.
 use Rattle.std.specs.Prelude.{if◌then◌else◌, Bool, true, false}
-use Rattle.std.proofs.Common.{◌≡◌, ℕ, List, Some, refl, ap, subst, arith}
+use Rattle.std.proofs.Common.{◌≡◌, refl, subst, arith}
 use Rattle.flux_base.specs.Blames.{Blame, CountsBy, OutsideCounts, no_counts, no_one, the_source, the_image, the_notes, three_counts}
 use Rattle.flux_base.specs.Counts.{FaultCounts}
 use Rattle.flux_base.specs.declared.status.Status.{Status}
 use Rattle.flux_base.specs.declared.status.Status.TheVariants.{AllGood, NotAllGood, Refused, Usage, ReadFault, ImageFault, NotesFault, Memory, ShelfFault}
 use Rattle.flux_base.specs.lemmas.Counting.{Counts-none}
-use Rattle.sector_images.specs.declared.format.Format.{Format}
-use Rattle.flux_words.specs.DumpWords.{AreReadWords, Asked}
-use Rattle.flux_words.specs.FolderWords.{AreFolderWords}
-use Rattle.flux_words.specs.IdentityWords.{identity_words}
-use Rattle.flux_words.specs.SectorWords.{AskedSector, NamesShow}
 use Rattle.flux_cli.proofs.Often.{many-none}
-use Rattle.flux_cli.specs.Blamed.{CountsOfRun, CountsOfShelf, CountsOnShelf, all_counts, reads_dumps, shelf_blame, source_blame}
-use Rattle.flux_cli.specs.Runs.{RanOverSource, SaysBy}
-use Rattle.flux_cli.specs.Works.{work_for}
+use Rattle.flux_cli.specs.Runs.{Does, Says}
+use Rattle.flux_cli.specs.Work.{Work}
 use Rattle.flux_cli.specs.World.{Outside}
+use Rattle.flux_cli.specs.Blamed.{CountsOfRun, CountsOfShelf, CountsOnShelf, all_counts, shelf_blame, source_blame}
 
 -- a call that has no notes
 pub CountsBy-noteless : {source source' image image' : FaultCounts} (notes : FaultCounts) (blame : Blame)
@@ -96,19 +91,6 @@ module _ {source shelf shelf' image image' notes notes' : FaultCounts} where
   run-of-shelf dumps Memory other c = record { source = Counts-none source; shelf = c.shelf; image = c.image; notes = c.notes }
   run-of-shelf dumps ShelfFault other c = record { source = Counts-none source; shelf = c.shelf; image = c.image; notes = c.notes }
 
--- which words read dumps
-pub reads-dumps : (words : List (List ℕ)) (asked : Asked) → AreReadWords asked words → reads_dumps words ≡ true
-reads-dumps words asked are = ap reads_dumps are.is
-
-pub identity-dumps : (words : List (List ℕ)) (dump : List ℕ) → words ≡ identity_words dump → reads_dumps words ≡ true
-identity-dumps words dump is = ap reads_dumps is
-
-pub shows-dumps : (words : List (List ℕ)) (asked : AskedSector) → NamesShow words (Some asked) → reads_dumps words ≡ true
-shows-dumps words asked names = ap reads_dumps names.2.1
-
-pub folder-no-dump : (words : List (List ℕ)) (format : Format) (folder : List ℕ) → AreFolderWords format folder words → reads_dumps words ≡ false
-folder-no-dump words format folder are = ap reads_dumps are.is
-
 -- over the source no fault is the shelf's
-pub no-shelf : {S W N : Type 0} (words : List (List ℕ)) (status : Status) (before after : Outside S W N) → RanOverSource words status before after → status ≡ ShelfFault → ⊥
-no-shelf words status before after ran same = subst (λ (s : Status). SaysBy (work_for words ran.asked) ran.asked s before after) same ran.does.says
+pub no-shelf : {S W N : Type 0} {work : Work} {status : Status} {before after : Outside S W N} → Does work status before after → status ≡ ShelfFault → ⊥
+no-shelf {work = work} {before = before} {after = after} did same = subst (λ (s : Status). Says work s before after) same did.says

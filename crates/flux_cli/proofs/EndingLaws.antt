@@ -13,11 +13,9 @@ use Rattle.flux_base.specs.declared.status.Status.{Status}
 use Rattle.flux_base.specs.declared.status.Status.TheVariants.{AllGood, NotAllGood, Refused, Usage, ReadFault, ImageFault, NotesFault, Memory, ShelfFault}
 use Rattle.flux_base.specs.lemmas.Blaming.{CountsBy-image, CountsBy-notes, CountsBy-then}
 use Rattle.flux_base.specs.lemmas.Counting.{Counts-then}
-use Rattle.flux_engine.specs.Answers.{Answer as DiskAnswer}
-use Rattle.flux_engine.specs.Blamed.{engine_blame, plan_blame, write_blame}
+use Rattle.flux_engine.specs.Blamed.{plan_blame, write_blame}
 use Rattle.flux_engine.specs.PlanAnswers.{PlanAnswer}
 use Rattle.flux_engine.specs.Writes.{Answer as ImageAnswer}
-use Rattle.flux_engine.specs.declared.fault.EngineFault.TheVariants.{Refused as DiskRefused, ReadFault as DiskUnread, ImageFault as DiskUnwritten, NotesFault as DiskUntold}
 use Rattle.flux_engine.specs.declared.fault.PlanFault.TheVariants.{Refused as PlanRefused, ReadFault as PlanUnread, ImageFault as PlanUnwritten, NotesFault as PlanUntold}
 use Rattle.flux_engine.specs.declared.write_fault.WriteFault.TheVariants.{WrongSize, ReadFault as ImageUnread, ImageFault as ImageUnwritten}
 use Rattle.g64_image.specs.Answers.{FromAnswer}
@@ -27,7 +25,7 @@ use Rattle.sector_report.specs.declared.naming.Naming.{Naming}
 use Rattle.track_shelf.specs.Files.{File}
 use Rattle.flux_cli.proofs.Blaming.{good_blames}
 use Rattle.flux_cli.specs.Blamed.{CountsOnShelf, FailsOften, source_blame}
-use Rattle.flux_cli.specs.Endings.{Ending, EndsBy, EndsDumps, disk_ending, ending_blame, ends, file_ending, image_ending, plan_ending, refusal, refuses, written_status}
+use Rattle.flux_cli.specs.Endings.{Ending, EndsBy, EndsDumps, ending_blame, ends, file_ending, image_ending, plan_ending, refusal, refuses, written_status}
 use Rattle.flux_cli.specs.Runs.{growth}
 use Rattle.flux_cli.specs.Work.{Got, GotPart}
 
@@ -93,13 +91,6 @@ done-if false false = tt
 
 -- whom an answer blames, its ending does
 module _ {before after : OutsideCounts} where
-  pub disk-blame : (answer : DiskAnswer) → CountsBy (engine_blame answer) before after → CountsBy (ending_blame source_blame (disk_ending answer)) before after
-  disk-blame (Ok totals) counts = good_blames (totals.good == totals.sectors) counts
-  disk-blame (Err DiskUnread) counts = counts
-  disk-blame (Err DiskUnwritten) counts = counts
-  disk-blame (Err DiskUntold) counts = counts
-  disk-blame (Err (DiskRefused track block fault)) counts = counts
-
   pub plan-blame : (naming : Naming) (answer : PlanAnswer) → CountsBy (plan_blame answer) before after → CountsBy (ending_blame source_blame (plan_ending naming answer)) before after
   plan-blame naming (Ok totals) counts = good_blames (totals.good == totals.sectors) counts
   plan-blame naming (Err PlanUnread) counts = counts
@@ -189,16 +180,16 @@ module _ {N : Type 0} (before after : Moment N) (status : Status) where
   pub ended-by-line : (text : List ℕ) (P : Status → Type 0) → P Refused → P NotesFault → EndsBy (refuses text) status before after → P status
   ended-by-line text P refused cut is = ends-refused (λ (s : Status) (n : Moment N). P s) text status before after (λ line later. refused) (λ part later rose. cut) is
 
-  pub disk-over-source : (answer : DiskAnswer) → EndsBy (disk_ending answer) status before after → IsOverSource status
-  disk-over-source (Ok totals) is = ends-with (λ (s : Status) (n : Moment N). IsOverSource s) _ status before after (either (totals.good == totals.sectors)) is
+  pub plan-over-source : (naming : Naming) (answer : PlanAnswer) → EndsBy (plan_ending naming answer) status before after → IsOverSource status
+  plan-over-source naming (Ok totals) is = ends-with (λ (s : Status) (n : Moment N). IsOverSource s) _ status before after (either (totals.good == totals.sectors)) is
     where
       either : (b : Bool) → IsOverSource (if b then AllGood else NotAllGood)
       either true = tt
       either false = tt
-  disk-over-source (Err DiskUnread) is = ends-with (λ (s : Status) (n : Moment N). IsOverSource s) ReadFault status before after tt is
-  disk-over-source (Err DiskUnwritten) is = ends-with (λ (s : Status) (n : Moment N). IsOverSource s) ImageFault status before after tt is
-  disk-over-source (Err DiskUntold) is = ends-with (λ (s : Status) (n : Moment N). IsOverSource s) NotesFault status before after tt is
-  disk-over-source (Err (DiskRefused track block fault)) is =
+  plan-over-source naming (Err PlanUnread) is = ends-with (λ (s : Status) (n : Moment N). IsOverSource s) ReadFault status before after tt is
+  plan-over-source naming (Err PlanUnwritten) is = ends-with (λ (s : Status) (n : Moment N). IsOverSource s) ImageFault status before after tt is
+  plan-over-source naming (Err PlanUntold) is = ends-with (λ (s : Status) (n : Moment N). IsOverSource s) NotesFault status before after tt is
+  plan-over-source naming (Err (PlanRefused track capture block fault)) is =
       ended-by-line _ IsOverSource tt tt is
 
   pub shelf-over-shelf : {A : Type 0} (told : Option (List File)) (dumps : List (List ℕ)) (by : A → Status) → ((done : A) → IsDone (by done)) → (answer : Result A DumpsFault)

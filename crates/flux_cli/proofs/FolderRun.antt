@@ -5,7 +5,12 @@ use Rattle.flux_base.specs.declared.status.Status.{Status}
 use Rattle.flux_base.specs.declared.status.Status.TheVariants.{AllGood, NotAllGood, Refused, Usage, ReadFault, ImageFault, NotesFault, Memory, ShelfFault}
 use Rattle.sector_images.specs.declared.format.Format.{Format}
 use Rattle.flux_cli.specs.FolderRuns.{Began, DecodesShelf, DidBy, DidFolder, RefusesMissing, over_shelf}
-use Rattle.flux_cli.specs.World.{ShelfMoment, OnShelf}
+use Rattle.flux_engine.specs.Plans.{decoding}
+use Rattle.flux_engine.specs.declared.plan.Plan.{Plan}
+use Rattle.flux_cli.specs.PlanWork.{planned_work}
+use Rattle.flux_cli.specs.Runs.{Does}
+use Rattle.flux_cli.specs.World.{Outside, ShelfMoment, OnShelf}
+use Rattle.flux_words.specs.declared.commands.Output.TheVariants.{ImageAndReport}
 
 -- a status that is no fault of the source is the shelf's too
 pub other_status : (s : Status) → (s ≡ ReadFault → ⊥) → s ≡ over_shelf s
@@ -18,6 +23,13 @@ other_status ImageFault other = refl
 other_status NotesFault other = refl
 other_status Memory other = refl
 other_status ShelfFault other = refl
+
+-- what was done by this plan in a room that was made for the format was done as `decode` does
+pub decoded-so : {S W N : Type 0} (plan : Plan) (held format : Format) (status : Status) (before after : Outside S W N) → plan ≡ decoding → held ≡ format
+    → Does (planned_work plan ImageAndReport held) status before after → Does (planned_work decoding ImageAndReport format) status before after
+decoded-so plan held format status before after by of did =
+    subst (λ (p : Plan). Does (planned_work p ImageAndReport format) status before after) by
+    (subst (λ (f : Format). Does (planned_work plan ImageAndReport f) status before after) of did)
 
 module _ {H W N : Type 0} (format : Format) (folder : List ℕ) (status : Status) (before after : OnShelf H W N) (answer : Result (Option ℕ) Failed) (shelf : ShelfMoment H)
     (began : Began folder format answer before.shelf shelf) where

@@ -18,13 +18,12 @@ use Rattle.g64_image.specs.declared.fault.G64Fault.TheVariants.{TooLarge}
 use Rattle.kryo_stream.specs.Reads.{SourceMoment}
 use Rattle.sector_images.specs.declared.format.Format.{Format}
 use Rattle.sector_report.specs.declared.totals.Totals.{Totals}
-use Rattle.flux_cli.specs.DisksWork.{status_of}
+use Rattle.flux_cli.specs.PlanWork.{status_by, status_of}
 use Rattle.flux_words.specs.G64Disks.{format_of}
-use Rattle.flux_cli.specs.G64Work.{CutInFileReport, IsWholeInput, file_refusal, file_status, from_g64_leaves, from_g64_outcome, from_g64_work}
+use Rattle.flux_cli.specs.G64Work.{CutInFileReport, IsWholeInput, file_refusal, from_g64_leaves, from_g64_outcome, from_g64_work}
 use Rattle.flux_cli.specs.Runs.{Does, Finished, IsCut, NoCountFell, WasReadWhereNeeded, growth}
 use Rattle.flux_cli.specs.Work.{Got}
 use Rattle.flux_cli.specs.World.{Outside}
-use Rattle.flux_words.specs.declared.command.Command.TheVariants.{FromG64}
 use Rattle.flux_words.specs.declared.g64_disk.G64Disk.{G64Disk}
 use Rattle.flux_cli.proofs.Inputs.{rest}
 
@@ -36,7 +35,7 @@ leaves-if x later false none = none
 pub file-does : {S W N : Type 0} (disk : G64Disk) (before after : Outside S W N) (b : Bool)
     → Finished (from_g64_work (format_of disk)) (if b then AllGood else NotAllGood) before after → NoCountFell before after
     → WasReadWhereNeeded (from_g64_work (format_of disk)) before after
-    → Does (FromG64 disk) (if b then AllGood else NotAllGood) before after
+    → Does (from_g64_work (format_of disk)) (if b then AllGood else NotAllGood) before after
 file-does disk before after true finished counts needed = record { answer = tt; says = finished; counts = counts; needed = needed }
 file-does disk before after false finished counts needed = record { answer = tt; says = finished; counts = counts; needed = needed }
 
@@ -96,7 +95,7 @@ module _ {S W N : Type 0} (format : Format) (before after : Outside S W N) where
   -- the image and the report
   pub file-finish : (totals : Totals)
       → ReadsFile format before.source.bytes after.source.bytes before.image.bytes after.image.bytes before.notes.bytes after.notes.bytes (Ok totals)
-      → Finished (from_g64_work format) (status_of totals None) before after
+      → Finished (from_g64_work format) (status_of totals) before after
   file-finish totals f =
       let r = rest before.source after.source f.taken f.consumed in
       let d = f.says.0 in
@@ -108,7 +107,7 @@ module _ {S W N : Type 0} (format : Format) (before after : Outside S W N) where
         input = r.input;
         outcome = from_g64_outcome d;
         gives = (d, subst (λ x. IsFileDisk format x d) is.0 wrote.disk, refl);
-        status_is = ap (λ t. status_of t None) f.says.3 ∙ ap (file_status d.totals) (sym none);
+        status_is = ap status_of f.says.3 ∙ ap (status_by d.totals) (sym none);
         image_got = wrote.image_grew;
         notes_got = subst (Got (growth before.notes after.notes)) (sym (ap (λ fault. d.notes ++ file_refusal fault) none ∙ append-nil d.notes)) wrote.notes_grew;
         leaves = leaves-if (f.taken ++ r.later) r.later (totals.good == totals.sectors) is.1.ended;

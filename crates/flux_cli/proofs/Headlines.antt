@@ -1,62 +1,54 @@
 -- From what a run did to what is known of its outcome.
-use Rattle.std.specs.Prelude.{◌≡◌, ◌==◌, ℕ, ◌++◌, Bool, true, false, List, [], if◌then◌else◌, Option, Some, None, refl}
+use Rattle.std.specs.Prelude.{◌≡◌, ◌==◌, ◌≤◌, ℕ, ◌++◌, Bool, true, false, List, [], if◌then◌else◌, Option, Some, None, refl}
 use Rattle.std.proofs.Common.{ap, arith, inl, inr, sym, subst, ◌∙◌, append-nil}
 use Rattle.std.proofs.lemmas.Bool.{eq-eqb}
-use Rattle.capture_set.specs.Sets.{set_plan, set_streams}
-use Rattle.disk_rescue.specs.Rescued.{rescuing, track_streams}
 use Rattle.flux_base.specs.declared.status.Status.{Status}
 use Rattle.flux_base.specs.declared.status.Status.TheVariants.{AllGood, NotAllGood, Refused, Usage, ReadFault, ImageFault, NotesFault, Memory, ShelfFault}
-use Rattle.flux_engine.specs.DiskLaws.{GoodIsRightOnDisks, LinesTellVerdicts}
-use Rattle.flux_engine.specs.Disks.{Decoded, IsDecoded, Stop}
-use Rattle.flux_engine.specs.Plans.{PlanStop, Planned}
+use Rattle.flux_engine.specs.Plans.{IsPlanned, PlanStop, Planned, streams_in}
+use Rattle.flux_engine.specs.Tracks.{part_by}
+use Rattle.flux_engine.specs.declared.plan.Plan.{Plan}
+use Rattle.flux_engine.specs.declared.plan.Rule.TheVariants.{Strict}
 use Rattle.flux_trial.specs.Laws.{WholeTrialsHaveOneLine}
 use Rattle.flux_trial.specs.Tracks.{IsTrialLine}
 use Rattle.g64_image.specs.FileDisks.{FileDisk, IsFileDisk}
 use Rattle.g64_image.specs.Laws.{GoodIsRightInFiles, LinesTellInFiles, WrittenFilesComeBack}
 use Rattle.g64_image.specs.Layout.{IsCommodore}
 use Rattle.g64_image.specs.declared.fault.G64Fault.{G64Fault}
-use Rattle.law_captured_disks.specs.Headline.{CapturedDisksDecode, ErasedDisksDecode}
-use Rattle.law_captured_plans.specs.Said.{AreRightLines, GoodLinesAreRight, InputsAreShort}
-use Rattle.law_captured_rescues.specs.Headline.{CapturedDisksAreRescued, SteadyDisksAreRescued, SteadyErasedDisksAreRescued}
-use Rattle.law_captured_sets.specs.Headline.{CapturedSetsDecode, ErasedSetsDecode}
-use Rattle.sector_images.specs.Formats.{WordsNameFormats}
+use Rattle.law_captured_plans.specs.Headline.{CapturedPlansAreNeverWrong, CapturedPlansAreRead, ErasedPlansAreRead, ErasedPlansStandInOnePiece}
+use Rattle.law_captured_plans.specs.Said.{AreRightLines, GoodLinesAreRight, InputsAreShort, TellsSources}
+use Rattle.sector_images.specs.Formats.{WordsBeginWithLetters, WordsNameFormats}
 use Rattle.sector_images.specs.declared.format.Format.{Format}
-use Rattle.sector_report.specs.declared.naming.Naming.{Naming}
-use Rattle.sector_report.specs.declared.naming.Naming.TheVariants.{ByCapture, ByClock}
 use Rattle.sector_report.specs.declared.totals.Totals.{Totals}
 use Rattle.turn_merge.specs.declared.verdict.Verdict.TheVariants.{Good}
-use Rattle.flux_words.specs.Commands.{AreWordsOf, AskFor}
-use Rattle.flux_cli.specs.DisksWork.{disk_outcome, refusal_of, status_of, to_notes}
+use Rattle.flux_words.specs.Asked.{Asked, the_turns, some_streams, a_folder, some_dumps, a_sector, an_identity, written_streams, a_trial, a_g64_file, an_image_of_g64, a_page}
+use Rattle.flux_words.specs.CommandWords.{AreWordsOf}
 use Rattle.flux_words.specs.G64Disks.{format_of}
-use Rattle.flux_cli.specs.G64Work.{file_refusal, file_status, from_g64_outcome}
-use Rattle.flux_cli.specs.Headlines.{AreRightInFile, AreRightOnDisk, Gave, GaveOrCut, IsExpected, IsOfDecoded, IsOfFile, IsOfPlanned, OfDisk, OfFile, OfRescue, OfSet, OfTrial, RunsAsExpected, WasRead}
-use Rattle.flux_cli.specs.PlanWork.{IsRead, planned_outcome, planned_refusal, planned_status}
-use Rattle.flux_cli.specs.Runs.{Finished, Says, SaysBy}
-use Rattle.flux_cli.specs.ShelfRuns.{AskOfShelf, OfShelf, a_folder, a_sector, an_identity, some_dumps, Ran, RanBy}
-use Rattle.flux_cli.specs.Work.{Outcome}
-use Rattle.flux_cli.specs.Works.{work_for, work_of}
+use Rattle.flux_cli.specs.AskedDisks.{IsFew, Keeps}
+use Rattle.flux_cli.specs.G64Work.{file_refusal, from_g64_outcome}
+use Rattle.flux_cli.specs.Headlines.{AreRightInFile, Gave, GaveOrCut, IsExpected, IsOfFile, IsOfPlanned, OfFile, OfShown, OfStreams, OfTrial, RunsAsExpected, WasRead}
+use Rattle.flux_cli.specs.PlanWork.{planned_outcome, planned_refusal, planned_work, status_by, status_of, to_notes}
+use Rattle.flux_cli.specs.Runs.{Finished, Says}
+use Rattle.flux_cli.specs.ShelfRuns.{DoesRow, Ran}
+use Rattle.flux_cli.specs.Work.{Outcome, Work}
+use Rattle.flux_cli.specs.Works.{GivesOf, IsWithBytes, Row, plan_of, row_for, row_of, with_bytes, with_files, with_folder}
 use Rattle.flux_cli.specs.World.{Outside, World}
-use Rattle.flux_words.specs.declared.command.Command.{Command}
-use Rattle.flux_words.specs.declared.command.Command.TheVariants.{Turns, Decode, Report, Map, Write, Trial, ToG64, FromG64, DecodeSet, Rescue, Tell}
-use Rattle.flux_words.specs.declared.command.Output.{Output}
-use Rattle.flux_words.specs.declared.command.Output.TheVariants.{ImageAndReport, ReportAlone}
+use Rattle.flux_words.specs.declared.commands.Way.{Way}
+use Rattle.flux_words.specs.declared.commands.Way.TheVariants.{Once, Often, ByBothClocks}
+use Rattle.flux_words.specs.declared.commands.Output.{Output}
+use Rattle.flux_words.specs.declared.commands.Output.TheVariants.{ImageAndReport, ReportAlone, Picture}
 use Rattle.flux_words.specs.declared.g64_disk.G64Disk.{G64Disk}
 use Rattle.flux_words.specs.declared.g64_disk.G64Disk.TheVariants.{Tracks35, Tracks40}
-use Rattle.flux_cli.proofs.Outcomes.{no_dumps, no_folder, no_identity, no_show, one_command}
+use Rattle.flux_cli.proofs.AskedWords.{IsNoSector, asked_is, asked_keeps}
 
 -- what the crates below promise
 pub record Laws : Type 0 where
   pub names : WordsNameFormats
-  pub disks : CapturedDisksDecode
-  pub erased_disks : ErasedDisksDecode
-  pub sets : CapturedSetsDecode
-  pub erased_sets : ErasedSetsDecode
-  pub rescued : CapturedDisksAreRescued
-  pub steady : SteadyDisksAreRescued
-  pub steady_erased : SteadyErasedDisksAreRescued
+  pub letters : WordsBeginWithLetters
+  pub captured : CapturedPlansAreRead
+  pub never_wrong : CapturedPlansAreNeverWrong
+  pub erased : ErasedPlansAreRead
+  pub one_piece : ErasedPlansStandInOnePiece
   pub files : WrittenFilesComeBack
-  pub disk_lines : LinesTellVerdicts
-  pub disk_good : GoodIsRightOnDisks
   pub short : InputsAreShort
   pub plan_lines : GoodLinesAreRight
   pub file_lines : LinesTellInFiles
@@ -68,59 +60,36 @@ read_by : (b : Bool) → WasRead (if b then AllGood else NotAllGood)
 read_by true = tt
 read_by false = tt
 
-good_by : (totals : Totals) → totals.good ≡ totals.sectors → status_of totals None ≡ AllGood
+good_by : (totals : Totals) → totals.good ≡ totals.sectors → status_of totals ≡ AllGood
 good_by totals all = ap (λ (b : Bool). if b then AllGood else NotAllGood) (eq-eqb totals.good totals.sectors all)
 
 some_count : {X : Type 0} (a b : X) → Some a ≡ Some b → a ≡ b
 some_count a b same = cc
 
 -- what was read was not refused
-disk_read : (totals : Totals) (stop : Option Stop) → WasRead (status_of totals stop) → stop ≡ None
-disk_read totals None read = refl
-disk_read totals (Some stop) read = absurd read
+none_stopped : {A : Type 0} (totals : Totals) (stop : Option A) → WasRead (status_by totals stop) → stop ≡ None
+none_stopped totals None read = refl
+none_stopped totals (Some stop) read = absurd read
 
-plan_read : (totals : Totals) (stop : Option PlanStop) → WasRead (planned_status totals stop) → stop ≡ None
-plan_read totals None read = refl
-plan_read totals (Some stop) read = absurd read
-
-file_read : (totals : Totals) (fault : Option G64Fault) → WasRead (file_status totals fault) → fault ≡ None
-file_read totals None read = refl
-file_read totals (Some fault) read = absurd read
-
-module _ (output : Output) (d : Decoded) (o : Outcome) (is : o ≡ disk_outcome output d) (none : d.stop ≡ None) where
-  decoded_status : o.status ≡ status_of d.totals None
-  decoded_status = ap (λ (p : Outcome). p.status) is ∙ ap (status_of d.totals) none
-
-  decoded_read : WasRead o.status
-  decoded_read = subst WasRead (sym decoded_status) (read_by (d.totals.good == d.totals.sectors))
-
-  of_decoded : (Holds : Decoded → Type 0) → Holds d → IsOfDecoded output Holds o
-  of_decoded Holds holds = record {
-    decoded = d;
-    image_is = ap (λ (p : Outcome). p.image) is;
-    notes_are =
-        ap (λ (p : Outcome). p.notes) is ∙ ap (λ (s : Option Stop). to_notes output d ++ refusal_of s) none ∙ append-nil (to_notes output d);
-    holds = holds;
-  }
-
-module _ (naming : Naming) (d : Planned) (o : Outcome) (is : o ≡ planned_outcome naming d) (none : d.stop ≡ None) where
-  planned_status_is : o.status ≡ status_of d.totals None
-  planned_status_is = ap (λ (p : Outcome). p.status) is ∙ ap (planned_status d.totals) none
+module _ (output : Output) (plan : Plan) (format : Format) (d : Planned) (o : Outcome) (is : o ≡ planned_outcome output plan.naming format d) (none : d.stop ≡ None) where
+  planned_status_is : o.status ≡ status_of d.totals
+  planned_status_is = ap (λ (p : Outcome). p.status) is ∙ ap (status_by d.totals) none
 
   planned_read : WasRead o.status
   planned_read = subst WasRead (sym planned_status_is) (read_by (d.totals.good == d.totals.sectors))
 
-  of_planned : (Holds : Planned → Type 0) → Holds d → IsOfPlanned Holds o
+  of_planned : (Holds : Planned → Type 0) → Holds d → IsOfPlanned output format Holds o
   of_planned Holds holds = record {
     planned = d;
     image_is = ap (λ (p : Outcome). p.image) is;
-    notes_are = ap (λ (p : Outcome). p.notes) is ∙ ap (λ (s : Option PlanStop). d.notes ++ planned_refusal naming s) none ∙ append-nil d.notes;
+    notes_are =
+        ap (λ (p : Outcome). p.notes) is ∙ ap (λ (s : Option PlanStop). to_notes output d ++ planned_refusal plan.naming s) none ∙ append-nil (to_notes output d);
     holds = holds;
   }
 
 module _ (d : FileDisk) (o : Outcome) (is : o ≡ from_g64_outcome d) (none : d.stop ≡ None) where
-  file_status_is : o.status ≡ status_of d.totals None
-  file_status_is = ap (λ (p : Outcome). p.status) is ∙ ap (file_status d.totals) none
+  file_status_is : o.status ≡ status_of d.totals
+  file_status_is = ap (λ (p : Outcome). p.status) is ∙ ap (status_by d.totals) none
 
   of_file : (Holds : FileDisk → Type 0) → Holds d → IsOfFile Holds o
   of_file Holds holds = record {
@@ -134,59 +103,42 @@ is_commodore : (disk : G64Disk) → IsCommodore (format_of disk)
 is_commodore Tracks35 = inl refl
 is_commodore Tracks40 = inr refl
 
+-- what the words keep to that ask for a plan
+pub record IsAsked (plan : Plan) : Type 0 where
+  pub some : 1 ≤ plan.captures
+  pub most : plan.captures ≤ 16
+  pub strict : plan.rule ≡ Strict
+  pub tells : TellsSources plan.naming plan.captures plan.clocks
+
+pub way_asked : (way : Way) → IsFew way → IsAsked (plan_of way)
+way_asked Once few = record { some = omega arith; most = omega arith; strict = refl; tells = (omega arith, refl) }
+way_asked (Often count) few = record { some = few.some; most = few.most; strict = refl; tells = refl }
+way_asked ByBothClocks few = record { some = omega arith; most = omega arith; strict = refl; tells = omega arith }
+
 module _ (laws : Laws) (x : List ℕ) (o : Outcome) where
-  of_disk : (output : Output) (format : Format) (d : Decoded) → IsDecoded format x d → o ≡ disk_outcome output d → OfDisk output format x o
-  of_disk output format d decoded is = record {
-    told = λ read.
-        let none : d.stop ≡ None = disk_read d.totals d.stop (subst (λ (p : Outcome). WasRead p.status) is read) in
-        of_decoded output d o is none (AreRightOnDisk format x)
-        (λ track sector good bad first number fits line.
-        let told = laws.disk_lines format x d decoded track sector (Good good bad first) number fits line in
-        (told.n, told.track_is, laws.disk_good format x d told.n sector told.decoded good bad first told.has));
-    captured = λ image image_is disk.
-        let whole = laws.disks format image x d image_is disk decoded in
-        (decoded_status output d o is whole.no_stop ∙ good_by d.totals whole.all_good, of_decoded output d o is whole.no_stop _ whole);
-    erased = λ image image_is disk.
-        let rest = laws.erased_disks format image x d image_is disk decoded in
-        (decoded_read output d o is rest.no_stop, of_decoded output d o is rest.no_stop _ rest);
-  }
-
-  of_set : (format : Format) (count : ℕ) (words : List (List ℕ)) → AreWordsOf (DecodeSet format count) words → (d : Planned)
-      → IsRead (set_plan count) format x d → o ≡ planned_outcome ByCapture d → OfSet format count x o
-  of_set format count words are d read is = record {
+  of_streams : (plan : Plan) (output : Output) (format : Format) → IsAsked plan → (d : Planned) → IsPlanned plan (part_by plan.naming) format (streams_in plan x) d
+      → o ≡ planned_outcome output plan.naming format d → OfStreams plan output format x o
+  of_streams plan output format asked d read is = record {
     told = λ was.
-        let none : d.stop ≡ None = plan_read d.totals d.stop (subst (λ (p : Outcome). WasRead p.status) is was) in
-        of_planned ByCapture d o is none (AreRightLines (set_plan count) format (set_streams count x))
-        (laws.plan_lines (set_plan count) format (set_streams count x) d are.2.many.most refl refl (laws.short (set_plan count) x) read);
-    captured = λ image image_is set.
-        let whole = laws.sets format count image x d are.2.many.some image_is set read in
-        (planned_status_is ByCapture d o is whole.no_stop ∙ good_by d.totals whole.all_good, of_planned ByCapture d o is whole.no_stop _ whole);
-    erased = λ image image_is set.
-        let rest = laws.erased_sets format count image x d image_is set read in
-        (planned_read ByCapture d o is rest.no_stop, of_planned ByCapture d o is rest.no_stop _ rest);
-  }
-
-  of_rescue : (format : Format) (d : Planned) → IsRead rescuing format x d → o ≡ planned_outcome ByClock d → OfRescue format x o
-  of_rescue format d read is = record {
-    told = λ was.
-        let none : d.stop ≡ None = plan_read d.totals d.stop (subst (λ (p : Outcome). WasRead p.status) is was) in
-        of_planned ByClock d o is none (AreRightLines rescuing format (track_streams x))
-        (laws.plan_lines rescuing format (track_streams x) d (omega arith) refl (omega arith) (laws.short rescuing x) read);
-    captured = λ image image_is disk.
-        let rightly = laws.rescued format image x d image_is disk read in
-        (planned_read ByClock d o is rightly.no_stop, of_planned ByClock d o is rightly.no_stop _ rightly);
-    steady = λ image image_is disk keeps.
-        let whole = laws.steady format image x d image_is disk keeps read in
-        (planned_status_is ByClock d o is whole.no_stop ∙ good_by d.totals whole.all_good, of_planned ByClock d o is whole.no_stop _ whole);
-    erased = λ image image_is disk keeps.
-        let rest = laws.steady_erased format image x d image_is disk keeps read in
-        (planned_read ByClock d o is rest.no_stop, of_planned ByClock d o is rest.no_stop _ rest);
+        let none : d.stop ≡ None = none_stopped d.totals d.stop (subst (λ (p : Outcome). WasRead p.status) is was) in
+        of_planned output plan format d o is none (AreRightLines plan format (streams_in plan x))
+        (laws.plan_lines plan format (streams_in plan x) d asked.most asked.strict asked.tells (laws.short plan x) read);
+    captured = λ image image_is set steady.
+        let whole = laws.captured plan format image x d asked.some image_is set steady read in
+        (planned_status_is output plan format d o is whole.no_stop ∙ good_by d.totals whole.all_good, of_planned output plan format d o is whole.no_stop _ whole);
+    never_wrong = λ image image_is set.
+        let rightly = laws.never_wrong plan format image x d asked.some image_is set read in
+        (planned_read output plan format d o is rightly.no_stop, of_planned output plan format d o is rightly.no_stop _ rightly);
+    erased = λ image image_is set steady.
+        let rest = laws.erased plan format image x d image_is set steady read in
+        (planned_read output plan format d o is rest.no_stop, of_planned output plan format d o is rest.no_stop _ rest);
+    one_piece = λ image image_is set. laws.one_piece plan format image x image_is set;
   }
 
   of_g64 : (disk : G64Disk) (d : FileDisk) → IsFileDisk (format_of disk) x d → o ≡ from_g64_outcome d → OfFile (format_of disk) x o
   of_g64 disk d file is = record {
     told = λ read.
-        let none : d.stop ≡ None = file_read d.totals d.stop (subst (λ (p : Outcome). WasRead p.status) is read) in
+        let none : d.stop ≡ None = none_stopped d.totals d.stop (subst (λ (p : Outcome). WasRead p.status) is read) in
         of_file d o is none (AreRightInFile (format_of disk) x)
         (λ track sector good bad first number fits line.
         let told = laws.file_lines (format_of disk) x d file track sector (Good good bad first) number fits line in
@@ -201,23 +153,28 @@ module _ (laws : Laws) (x : List ℕ) (o : Outcome) where
       is ∙ ap (λ (text : List ℕ). record { status = AllGood; image = text; notes = [] }) (laws.trials format seed line no_hole trial)
 
   -- what a command's row says is as expected
-  pub expected : (command : Command) (words : List (List ℕ)) → AreWordsOf command words → (work_of command).gives x o → IsExpected command x o
-  expected Turns words are gives = tt
-  expected (Decode format) words are gives = of_disk ImageAndReport format gives.0 gives.1 gives.2
-  expected (Report format) words are gives = of_disk ReportAlone format gives.0 gives.1 gives.2
-  expected (Map format) words are gives = tt
-  expected (Write format) words are gives = tt
-  expected (Trial format seed) words are gives = of_trial format seed gives.0 gives.1 gives.2
-  expected (ToG64 disk) words are gives = tt
-  expected (FromG64 disk) words are gives = of_g64 disk gives.0 gives.1 gives.2
-  expected (DecodeSet format count) words are gives = of_set format count words are gives.0 gives.1 gives.2
-  expected (Rescue format) words are gives = of_rescue format gives.0 gives.1 gives.2
-  expected (Tell page) words are gives = tt
+  pub expected : (asked : Asked) → Keeps asked → GivesOf (row_of asked) x o → IsExpected asked x o
+  expected (some_streams asked) keeps gives = shown asked.output gives
+    where
+      shown : (output : Output) → (planned_work (plan_of asked.way) output asked.format).gives x o → OfShown (plan_of asked.way) output asked.format x o
+      shown ImageAndReport given = of_streams (plan_of asked.way) ImageAndReport asked.format (way_asked asked.way keeps) given.0 given.1 given.2
+      shown ReportAlone given = of_streams (plan_of asked.way) ReportAlone asked.format (way_asked asked.way keeps) given.0 given.1 given.2
+      shown Picture given = tt
+  expected (a_trial format seed) keeps gives = of_trial format seed gives.0 gives.1 gives.2
+  expected (an_image_of_g64 disk) keeps gives = of_g64 disk gives.0 gives.1 gives.2
+  expected the_turns keeps gives = tt
+  expected (a_folder format folder) keeps gives = tt
+  expected (some_dumps asked) keeps gives = tt
+  expected (a_sector asked) keeps gives = tt
+  expected (an_identity dump) keeps gives = tt
+  expected (written_streams format) keeps gives = tt
+  expected (a_g64_file disk) keeps gives = tt
+  expected (a_page page) keeps gives = tt
 
--- what holds of each outcome of a command over an input, holds of what a run gave
-module _ {S W N : Type 0} (before after : Outside S W N) (command : Command) (x : List ℕ) (told : before.source.bytes ≡ Some x) (Holds : Outcome → Type 0)
-    (holds : (o : Outcome) → (work_of command).gives x o → Holds o) where
-  gave : (status : Status) → Finished (work_of command) status before after → Gave Holds status before after
+-- what holds of each outcome of some work over an input, holds of what a run gave
+module _ {S W N : Type 0} (before after : Outside S W N) (work : Work) (x : List ℕ) (told : before.source.bytes ≡ Some x) (Holds : Outcome → Type 0)
+    (holds : (o : Outcome) → work.gives x o → Holds o) where
+  gave : (status : Status) → Finished work status before after → Gave Holds status before after
   gave status done =
       let whole : x ≡ done.taken ++ done.later = (done.input x told).0 in
       record {
@@ -225,10 +182,10 @@ module _ {S W N : Type 0} (before after : Outside S W N) (command : Command) (x 
         status_is = done.status_is;
         image_got = done.image_got;
         notes_got = done.notes_got;
-        holds = holds done.outcome (subst (λ (y : List ℕ). (work_of command).gives y done.outcome) (sym whole) done.gives);
+        holds = holds done.outcome (subst (λ (y : List ℕ). work.gives y done.outcome) (sym whole) done.gives);
       }
 
-  pub gave_or_cut : (status : Status) → Says command status before after → GaveOrCut Holds status before after
+  pub gave_or_cut : (status : Status) → Says work status before after → GaveOrCut Holds status before after
   gave_or_cut AllGood says = gave AllGood says
   gave_or_cut NotAllGood says = gave NotAllGood says
   gave_or_cut Refused says = gave Refused says
@@ -236,29 +193,35 @@ module _ {S W N : Type 0} (before after : Outside S W N) (command : Command) (x 
   gave_or_cut ReadFault says = says.1
   gave_or_cut ImageFault says = says.1
   gave_or_cut NotesFault says = says.1
-  gave_or_cut Memory says = says.1
+  gave_or_cut Memory says = says
   gave_or_cut ShelfFault says = absurd says
 
-asked_is : WordsNameFormats → (words : List (List ℕ)) (command : Command) (asked : Option Command) → AreWordsOf command words → AskFor words asked → asked ≡ Some command
-asked_is names words command None are asks = absurd (asks command are)
-asked_is names words command (Some other) are asks = ap Some (one_command names words other command asks are)
+-- what is asked of the source is no sector of dumps
+no_sector : (asked : Asked) → IsWithBytes (row_of asked) → IsNoSector asked
+no_sector (a_sector asked) source = absurd source
+no_sector the_turns source = tt
+no_sector (some_streams asked) source = tt
+no_sector (a_folder format folder) source = tt
+no_sector (some_dumps asked) source = tt
+no_sector (an_identity dump) source = tt
+no_sector (written_streams format) source = tt
+no_sector (a_trial format seed) source = tt
+no_sector (a_g64_file disk) source = tt
+no_sector (an_image_of_g64 disk) source = tt
+no_sector (a_page page) source = tt
 
-module _ (names : WordsNameFormats) {S W N H : Type 0} (words : List (List ℕ)) (status : Status) (before after : World S W N H) (ran : Ran words status before after) where
-  -- what was done for a command over the source
-  pub says_of : (command : Command) → AreWordsOf command words → Says command status before.outside after.outside
-  says_of command are = by ran.asked ran.asks ran.did
+module _ (laws : Laws) {S W N H : Type 0} (words : List (List ℕ)) (status : Status) (before after : World S W N H) (ran : Ran words status before after) where
+  -- what was done for what the words ask
+  pub did_of : (asked : Asked) → IsNoSector asked → AreWordsOf asked words → DoesRow (row_of asked) status before after
+  did_of asked free are =
+      subst (λ (a : Option Asked). DoesRow (row_for words a) status before after) (asked_is laws.names laws.letters words asked ran.asked free are ran.asks) ran.did
+
+  pub runs_as_expected : RunsAsExpected words status before.outside after.outside
+  runs_as_expected asked x source are told =
+      by (row_of asked) source (λ o gives. expected laws x o asked (asked_keeps words asked are) gives) (did_of asked (no_sector asked source) are)
     where
-      by : (of : Option OfShelf) → AskOfShelf words of → RanBy of words status before after → Says command status before.outside after.outside
-      by None none did =
-          subst (λ (asked : Option Command). SaysBy (work_for words asked) asked status before.outside after.outside)
-          (asked_is names words command did.0.asked are did.0.asks) did.0.does.says
-      by (Some (a_folder format folder)) folder_is did = absurd (no_folder command words are format folder folder_is.0)
-      by (Some (some_dumps asked)) read_is did = absurd (no_dumps command words are asked read_is.0)
-      by (Some (an_identity dump)) name_is did = absurd (no_identity command words are dump name_is.0)
-      by (Some (a_sector asked)) sector_is did = absurd (no_show command words are asked sector_is.2.0 sector_is.2.1)
-
-pub runs_as_expected : Laws → {S W N H : Type 0} (words : List (List ℕ)) (status : Status) (before after : World S W N H) → Ran words status before after
-    → RunsAsExpected words status before.outside after.outside
-runs_as_expected laws words status before after ran command x are told =
-    gave_or_cut before.outside after.outside command x told (IsExpected command x) (λ o gives. expected laws x o command words are gives) status
-    (says_of laws.names words status before after ran command are)
+      by : (row : Row) → IsWithBytes row → ((o : Outcome) → GivesOf row x o → IsExpected asked x o) → DoesRow row status before after
+          → GaveOrCut (IsExpected asked x) status before.outside after.outside
+      by (with_bytes work) source holds did = gave_or_cut before.outside after.outside work x told (IsExpected asked x) holds status did.0.says
+      by (with_files work) source holds did = absurd source
+      by (with_folder format folder) source holds did = absurd source

@@ -1,10 +1,8 @@
 pub mod TurnLemmas
 pub mod Inputs
-pub mod DisksRun
 pub mod ImagesRun
 pub mod G64Run
 pub mod PlanRun
-pub mod MapRun
 pub mod TurnsRun
 pub mod Runs
 pub mod Outcomes
@@ -23,3 +21,4 @@ pub mod Blaming
 pub mod EndingLaws
 pub mod Ended
 pub mod Telling
+pub mod AskedWords

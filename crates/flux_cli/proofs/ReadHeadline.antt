@@ -1,6 +1,6 @@
 -- From what a run did over dumps to what is known of it.
 use Rattle.std.specs.Prelude.{if◌then◌else◌, nat_lt}
-use Rattle.std.proofs.Common.{◌≡◌, ◌≤◌, ℕ, Bool, true, false, List, [], ◌∷◌, ◌++◌, drop, get_or, length, Option, Some, None, inl, inr, sym, ap, ◌∙◌, subst, arith}
+use Rattle.std.proofs.Common.{◌≡◌, ◌≤◌, ℕ, Bool, true, false, List, [], get_or, length, Option, Some, inl, inr, sym, ap, ◌∙◌, subst, arith}
 use Rattle.disk_map.specs.Dumps.{IsDumpsDrawn, PicturesOfDumpsShowReports, ShowsReport}
 use Rattle.dump_reading.specs.Outcomes.{DumpDisk, DumpsRead, FilesFailed, IsDumpsRead}
 use Rattle.dump_reading.specs.Totals.{is_complete}
@@ -11,26 +11,23 @@ use Rattle.law_read_dumps.specs.Complete.{CompleteIsAll}
 use Rattle.law_read_dumps.specs.Lines.{OtherFilesAreSaid, PassedStreamsAreSaid, ReportsHaveNoOtherLines, SectorsHaveTheirNumbers}
 use Rattle.law_read_dumps.specs.Said.{BesideStreamsAreOfFiles, EachIsSaid, GoodStaysOrIsContradicted, SaidIsRight, StreamsAreOfFiles, came_in}
 use Rattle.law_reported_dumps.specs.Told.{LinesTell, NoSectorIsToldTwice, PassedLinesAreTold}
-use Rattle.sector_images.specs.Formats.{IsWordOfFormat, WordsBeginWithLetters, WordsNameFormats}
-use Rattle.sector_images.specs.declared.format.Format.{Format}
 use Rattle.flux_cli.specs.EmptyText.{empty_text}
 use Rattle.track_shelf.specs.Files.{File}
-use Rattle.flux_words.specs.DumpParts.{options_in}
-use Rattle.flux_words.specs.DumpWords.{AreReadWords, Asked, option_words, shown_of}
+use Rattle.flux_words.specs.Asked.{some_dumps}
+use Rattle.flux_words.specs.DumpWords.{CanBeRead, shown_of}
 use Rattle.flux_cli.specs.AskedDisks.{asked_disk}
 use Rattle.flux_engine.specs.Plans.{Seen}
 use Rattle.flux_cli.specs.ReadHeadline.{GaveDumpsOrCut, GaveEmpty, GaveShown, OfDumps, ReadsAsExpected}
 use Rattle.flux_cli.specs.ReadRuns.{IsShown, read_status, read_work}
 use Rattle.flux_cli.specs.Runs.{growth}
-use Rattle.flux_cli.specs.ShelfRuns.{AskOfShelf, OfShelf, a_folder, a_sector, an_identity, some_dumps, Ran, RanBy}
-use Rattle.flux_cli.specs.ShelfWork.{DidOnShelf, FinishedOnShelf, FirstEmpty, SaysOnShelf, TellsEmpty}
+use Rattle.flux_cli.specs.ShelfRuns.{Ran}
+use Rattle.flux_cli.specs.ShelfWork.{FinishedOnShelf, FirstEmpty, SaysOnShelf, TellsEmpty}
 use Rattle.flux_cli.specs.Work.{Got}
 use Rattle.flux_cli.specs.World.{OnShelf, now_at, World, on_shelf}
-use Rattle.flux_words.specs.declared.dump_words.DumpOptions.{DumpOptions}
 use Rattle.flux_words.specs.declared.dump_words.Shown.{Shown}
 use Rattle.flux_words.specs.declared.dump_words.Shown.TheVariants.{Image, Picture}
-use Rattle.flux_words.specs.lemmas.Options.{head-same, options-passed, options-read, tail-same}
-use Rattle.flux_cli.proofs.Outcomes.{dumps_no_identity, dumps_no_show, folder_no_dumps, one_format}
+use Rattle.flux_cli.proofs.AskedWords.{asked_keeps}
+use Rattle.flux_cli.proofs.Headlines.{Laws, did_of}
 
 -- what the laws of dumps promise
 pub record DumpLaws : Type 0 where
@@ -50,30 +47,6 @@ pub record DumpLaws : Type 0 where
   pub whole : CapturedDumpsAreNeverWrong
   pub steady : SteadyDumpsAreReadWell
   pub pictures : PicturesOfDumpsShowReports
-
--- words ask for one disk at most
-module _ (letters : WordsBeginWithLetters) (names : WordsNameFormats) where
-  by_parts : (a b : Asked) (word other : List ℕ) → IsWordOfFormat word a.format → IsWordOfFormat other b.format → a.options ≡ b.options
-      → word ∷ a.dumps ≡ other ∷ b.dumps → a ≡ b
-  by_parts a b word other is_mine is_other chosen same =
-      let kinds : a.format ≡ b.format = one_format names word other a.format b.format (head-same _ _ _ _ same) is_mine is_other in
-      let rest : a.dumps ≡ b.dumps = tail-same _ _ _ _ same in
-      ap (λ (o : DumpOptions). record a { options = o }) chosen
-      ∙ ap (λ (d : List (List ℕ)). record a { options = b.options; dumps = d }) rest
-      ∙ ap (λ (f : Format). record b { format = f }) kinds
-
-  one_asked : (words : List (List ℕ)) (a b : Asked) → AreReadWords a words → AreReadWords b words → a ≡ b
-  one_asked words a b first second =
-      let mine : List (List ℕ) = first.word ∷ a.dumps in
-      let others : List (List ℕ) = second.word ∷ b.dumps in
-      let behind : option_words a.options ++ mine ≡ option_words b.options ++ others = tail-same _ _ _ _ (sym first.is ∙ second.is) in
-      let chosen : a.options ≡ b.options =
-      sym (options-read letters a.options first.word a.dumps a.format first.named) ∙ ap options_in behind
-      ∙ options-read letters b.options second.word b.dumps b.format second.named in
-      by_parts a b first.word second.word first.named second.named chosen (
-      sym (options-passed a.options mine)
-      ∙ ap (λ (o : DumpOptions). drop (length (option_words o)) (option_words a.options ++ mine)) chosen
-      ∙ ap (drop (length (option_words b.options))) behind ∙ options-passed b.options others)
 
 -- what was read of dumps
 of_dumps : DumpLaws → (disk : DumpDisk) (files : List File) → length disk.dumps ≤ 16 → (d : DumpsRead) → IsDumpsRead disk (Some files) d → OfDumps disk files d
@@ -178,17 +151,9 @@ module _ (laws : DumpLaws) {H W N : Type 0} (disk : DumpDisk) (files : List File
   gave_or_cut shown Memory says = says
   gave_or_cut shown ShelfFault says = gave shown ShelfFault shelf_refused says.0
 
-pub reads_as_expected : DumpLaws → WordsBeginWithLetters → WordsNameFormats → {S W N H : Type 0} (words : List (List ℕ)) (status : Status) (before after : World S W N H)
+pub reads_as_expected : DumpLaws → Laws → {S W N H : Type 0} (words : List (List ℕ)) (status : Status) (before after : World S W N H)
     → Ran words status before after → ReadsAsExpected words status (on_shelf before) (on_shelf after)
-reads_as_expected laws letters names_formats words status before after ran asked files are can told =
-    gave_or_cut laws (asked_disk asked) files (omega (arith, can.most)) (on_shelf before) (on_shelf after) told (shown_of asked.options) status (by ran.asked ran.asks ran.did).says
-  where
-    Read : Asked → Type 0
-    Read of = DidOnShelf (read_work (shown_of of.options) (asked_disk of)) status (on_shelf before) (on_shelf after)
-
-    by : (of : Option OfShelf) → AskOfShelf words of → RanBy of words status before after → Read asked
-    by None none did = absurd (none.1 asked can are)
-    by (Some (a_folder format folder)) names did = absurd (folder_no_dumps words format folder names.0 asked can are)
-    by (Some (some_dumps other)) names did = subst Read (one_asked letters names_formats words other asked names.0 are) did.0
-    by (Some (an_identity dump)) names did = absurd (dumps_no_identity words asked are dump names.1 names.0)
-    by (Some (a_sector other)) names did = absurd (dumps_no_show words asked are other names.0 names.1 names.2.0 names.2.1)
+reads_as_expected laws disk_laws words status before after ran asked files are told =
+    let can : CanBeRead asked = asked_keeps words (some_dumps asked) are in
+    gave_or_cut laws (asked_disk asked) files (omega (arith, can.most)) (on_shelf before) (on_shelf after) told (shown_of asked.options) status
+    (did_of disk_laws words status before after ran (some_dumps asked) tt are).0.says

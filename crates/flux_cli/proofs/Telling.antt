@@ -7,7 +7,7 @@ use Rattle.flux_base.specs.declared.status.Status.{Status}
 use Rattle.flux_base.specs.declared.status.Status.TheVariants.{AllGood, NotAllGood, Refused, Usage, ReadFault, ImageFault, NotesFault, Memory, ShelfFault}
 use Rattle.flux_base.specs.lemmas.Counting.{Counts-then}
 use Rattle.flux_cli.specs.Blamed.{CountsOfNotes, CountsOfRun, all_counts}
-use Rattle.flux_cli.specs.Captured.{FolderCaptured, FolderErased, RunsCaptured, RunsErased}
+use Rattle.flux_cli.specs.Captured.{FolderAsExpected}
 use Rattle.flux_cli.specs.Headlines.{RunsAsExpected}
 use Rattle.flux_cli.specs.OutputTold.{RanAndTold, ToldIf, failed_output_text, is_told, tells_faults, with_notes}
 use Rattle.flux_cli.specs.ReadHeadline.{ReadsAsExpected}
@@ -68,20 +68,11 @@ module _ {S W N H : Type 0} {words : List (List ℕ)} {status : Status} {before 
       → Says status (record (on_shelf left) { notes = notes })
   over_shelf Says output says = still words left.outside.notes notes (λ s n. Says s (record (on_shelf left) { notes = n })) output status told says
 
-  pub captured-told : RunsCaptured words status before.outside left.outside → RunsCaptured words status before.outside (record left.outside { notes = notes })
-  captured-told says = over_source (λ s now. RunsCaptured words s before.outside now) (λ cut. cut) says
-
-  pub erased-told : RunsErased words status before.outside left.outside → RunsErased words status before.outside (record left.outside { notes = notes })
-  erased-told says = over_source (λ s now. RunsErased words s before.outside now) (λ cut. cut) says
-
   pub expected-told : RunsAsExpected words status before.outside left.outside → RunsAsExpected words status before.outside (record left.outside { notes = notes })
   expected-told says = over_source (λ s now. RunsAsExpected words s before.outside now) (λ cut. cut) says
 
-  pub folder-captured-told : FolderCaptured words status (on_shelf before) (on_shelf left) → FolderCaptured words status (on_shelf before) (record (on_shelf left) { notes = notes })
-  folder-captured-told says = over_shelf (λ s now. FolderCaptured words s (on_shelf before) now) (λ cut. cut) says
-
-  pub folder-erased-told : FolderErased words status (on_shelf before) (on_shelf left) → FolderErased words status (on_shelf before) (record (on_shelf left) { notes = notes })
-  folder-erased-told says = over_shelf (λ s now. FolderErased words s (on_shelf before) now) (λ cut. cut) says
+  pub folder-told : FolderAsExpected words status (on_shelf before) (on_shelf left) → FolderAsExpected words status (on_shelf before) (record (on_shelf left) { notes = notes })
+  folder-told says = over_shelf (λ s now. FolderAsExpected words s (on_shelf before) now) (λ cut. cut) says
 
   pub dumps-told : ReadsAsExpected words status (on_shelf before) (on_shelf left) → ReadsAsExpected words status (on_shelf before) (record (on_shelf left) { notes = notes })
   dumps-told says = over_shelf (λ s now. ReadsAsExpected words s (on_shelf before) now) (λ cut. cut) says

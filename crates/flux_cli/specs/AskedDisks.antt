@@ -1,13 +1,20 @@
--- What words ask of dumps, as the commands take it: each disk is read by both clocks, and all files of its dumps are looked at.
+-- What words ask, as the commands take it: what it keeps to; and of dumps each disk is read by both clocks, and all files of its dumps are looked at.
+use Rattle.std.specs.Prelude.{◌<◌, length}
+use Rattle.flux_engine.specs.Recordings.{track_at}
 use Rattle.dump_reading.specs.Outcomes.{DumpDisk}
 use Rattle.dump_reading.specs.declared.looks.Looks.TheVariants.{Always}
 use Rattle.flux_engine.specs.declared.plan.Clocks.TheVariants.{Both}
-use Rattle.flux_words.specs.DumpWords.{Asked, stepping_of}
-use Rattle.flux_words.specs.SectorWords.{AskedSector}
+use Rattle.sector_images.specs.Places.{IsSector, tracks}
+use Rattle.flux_words.specs.Asked.{Asked, some_streams, some_dumps, a_sector}
+use Rattle.flux_words.specs.Counts.{IsManyCaptures}
+use Rattle.flux_words.specs.DumpWords.{Asked as AskedDumps, CanBeRead, stepping_of}
+use Rattle.flux_words.specs.SectorWords.{AskedSector, CanBeShown}
+use Rattle.flux_words.specs.declared.commands.Way.{Way}
+use Rattle.flux_words.specs.declared.commands.Way.TheVariants.{Often}
 use Rattle.sector_copies.specs.Shown.{SectorAsked}
 
 -- the disk that is to be read
-abbrev pub asked_disk : Asked → DumpDisk
+abbrev pub asked_disk : AskedDumps → DumpDisk
 asked_disk asked = record { stepping = stepping_of asked.options; dumps = asked.dumps; format = asked.format; clocks = Both; looks = Always }
 
 -- and the sector that is to be shown of one
@@ -18,3 +25,20 @@ shown_sector asked = record {
   sector = asked.sector;
   alone = asked.alone;
 }
+
+-- what is asked keeps to this
+abbrev pub IsFew : Way → Type 0
+IsFew (Often count) = IsManyCaptures count
+IsFew _ = Unit {0}
+
+-- a sector is one of a track of its format, and the dumps can be read
+pub record IsPlaced (asked : AskedSector) : Type 0 where
+  pub shown : CanBeShown asked
+  pub low : asked.number < length (tracks asked.format)
+  pub is : IsSector asked.format (track_at asked.format asked.number) asked.sector
+
+abbrev pub Keeps : Asked → Type 0
+Keeps (some_streams asked) = IsFew asked.way
+Keeps (some_dumps asked) = CanBeRead asked
+Keeps (a_sector asked) = IsPlaced asked
+Keeps _ = Unit {0}

@@ -1,11 +1,14 @@
 -- Whom a status blames: of which object of the outside it tells a fault.
-use Rattle.std.specs.Prelude.{◌≡◌, ◌<◌, ◌||◌, ℕ, Bool, true, false, List, [], ◌∷◌, codes}
-use Rattle.std.specs.Str.{bytes_eq}
+use Rattle.std.specs.Prelude.{◌≡◌, ◌<◌, ℕ, Bool, true, false, List, [], ◌∷◌, Option, Some}
 use Rattle.dump_reading.specs.Files.{CountsMany}
 use Rattle.flux_base.specs.Blames.{Blame, OutsideCounts, is_image, is_notes, is_source, no_one, the_source, the_image, the_notes}
 use Rattle.flux_base.specs.Counts.{Counts, FaultCounts}
 use Rattle.flux_base.specs.declared.status.Status.{Status}
 use Rattle.flux_base.specs.declared.status.Status.TheVariants.{ReadFault, ImageFault, NotesFault, ShelfFault}
+use Rattle.flux_help.specs.Verbs.{verb_of}
+use Rattle.flux_help.specs.declared.verb.Verb.{Verb}
+use Rattle.flux_help.specs.declared.verb.Verb.TheVariants.{Identify, Read, Show}
+use Rattle.flux_words.specs.Asked.{Asked, some_dumps, a_sector, an_identity}
 use Rattle.flux_cli.specs.World.{World}
 
 abbrev pub source_blame : Status → Blame
@@ -21,10 +24,22 @@ shelf_blame ImageFault = the_image
 shelf_blame NotesFault = the_notes
 shelf_blame _ = no_one
 
--- words that read dumps begin so
+-- dumps are read for some of what can be asked, which the verb tells
+abbrev pub over_dumps : Asked → Bool
+over_dumps (some_dumps asked) = true
+over_dumps (an_identity dump) = true
+over_dumps (a_sector asked) = true
+over_dumps _ = false
+
+abbrev pub verb_over_dumps : Option Verb → Bool
+verb_over_dumps (Some Read) = true
+verb_over_dumps (Some Identify) = true
+verb_over_dumps (Some Show) = true
+verb_over_dumps _ = false
+
 abbrev pub reads_dumps : (words : List (List ℕ)) → Bool
 reads_dumps [] = false
-reads_dumps (first ∷ others) = bytes_eq first (codes "read") || (bytes_eq first (codes "identify") || bytes_eq first (codes "show"))
+reads_dumps (first ∷ others) = verb_over_dumps (verb_of first)
 
 -- how often files failed under such words, by the status: where it tells so, or a fault of a sink, and else never
 abbrev pub FailsOften : Status → (often : ℕ) → Type 0

@@ -1,5 +1,5 @@
 -- How a command ends by what its work answered: with a status, or with a line to the notes that says why the input is refused.
-use Rattle.std.specs.Prelude.{◌≡◌, ℕ, List, Option, None, Result, Ok, Err}
+use Rattle.std.specs.Prelude.{◌≡◌, ℕ, List, Option, Result, Ok, Err}
 use Rattle.dump_reading.specs.declared.fault.DumpsFault.{DumpsFault}
 use Rattle.dump_reading.specs.declared.fault.DumpsFault.TheVariants.{NoFiles, ImageFault as DumpsUnwritten, NotesFault as DumpsUntold}
 use Rattle.flux_base.specs.Blames.{Blame, no_one}
@@ -7,19 +7,16 @@ use Rattle.flux_base.specs.Moments.{Moment, Puts}
 use Rattle.flux_base.specs.declared.outside.Failed.{Failed}
 use Rattle.flux_base.specs.declared.status.Status.{Status}
 use Rattle.flux_base.specs.declared.status.Status.TheVariants.{AllGood, Refused, ReadFault, ImageFault, NotesFault}
-use Rattle.flux_engine.specs.Answers.{Answer as DiskAnswer}
 use Rattle.flux_engine.specs.PlanAnswers.{PlanAnswer}
 use Rattle.flux_engine.specs.Writes.{Answer as ImageAnswer}
-use Rattle.flux_engine.specs.declared.fault.EngineFault.TheVariants.{Refused as DiskRefused, ReadFault as DiskUnread, ImageFault as DiskUnwritten, NotesFault as DiskUntold}
 use Rattle.flux_engine.specs.declared.fault.PlanFault.TheVariants.{Refused as PlanRefused, ReadFault as PlanUnread, ImageFault as PlanUnwritten, NotesFault as PlanUntold}
 use Rattle.flux_engine.specs.declared.write_fault.WriteFault.TheVariants.{WrongSize, ReadFault as ImageUnread, ImageFault as ImageUnwritten}
 use Rattle.g64_image.specs.Answers.{FromAnswer}
 use Rattle.g64_image.specs.Lines.{g64_text}
 use Rattle.g64_image.specs.declared.fault.FromStop.TheVariants.{Refused as FileRefused, ReadFault as FileUnread, ImageFault as FileUnwritten, NotesFault as FileUntold}
-use Rattle.sector_report.specs.Lines.{image_text, refused_text}
+use Rattle.sector_report.specs.Lines.{image_text}
 use Rattle.sector_report.specs.declared.naming.Naming.{Naming}
-use Rattle.flux_cli.specs.DisksWork.{status_of}
-use Rattle.flux_cli.specs.PlanWork.{stop_text}
+use Rattle.flux_cli.specs.PlanWork.{status_of, stop_text}
 use Rattle.flux_cli.specs.ShelfWork.{TellsEmpty}
 use Rattle.track_shelf.specs.Files.{File}
 
@@ -49,17 +46,15 @@ abbrev pub written_status : Result (Unit {0}) Failed → Status
 written_status (Ok _) = AllGood
 written_status (Err _) = ImageFault
 
--- a disk that was decoded, or its report written
-abbrev pub disk_ending : DiskAnswer → Ending
-disk_ending (Ok totals) = ends (status_of totals None)
-disk_ending (Err DiskUnread) = ends ReadFault
-disk_ending (Err DiskUnwritten) = ends ImageFault
-disk_ending (Err DiskUntold) = ends NotesFault
-disk_ending (Err (DiskRefused track block fault)) = refuses (refused_text track block fault)
+-- where the report stands in the image's place, a fault of its sink is one of the image
+abbrev pub in_image : PlanAnswer → PlanAnswer
+in_image (Ok totals) = Ok totals
+in_image (Err PlanUntold) = Err PlanUnwritten
+in_image (Err fault) = Err fault
 
--- one that was read by a plan
+-- a disk that was read by a plan
 abbrev pub plan_ending : Naming → PlanAnswer → Ending
-plan_ending naming (Ok totals) = ends (status_of totals None)
+plan_ending naming (Ok totals) = ends (status_of totals)
 plan_ending naming (Err PlanUnread) = ends ReadFault
 plan_ending naming (Err PlanUnwritten) = ends ImageFault
 plan_ending naming (Err PlanUntold) = ends NotesFault
@@ -75,7 +70,7 @@ image_ending (Err (WrongSize read wanted)) = refuses (image_text read wanted)
 
 -- a file that was read
 abbrev pub file_ending : FromAnswer → Ending
-file_ending (Ok totals) = ends (status_of totals None)
+file_ending (Ok totals) = ends (status_of totals)
 file_ending (Err FileUnread) = ends ReadFault
 file_ending (Err FileUnwritten) = ends ImageFault
 file_ending (Err FileUntold) = ends NotesFault

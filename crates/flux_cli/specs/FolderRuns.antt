@@ -7,15 +7,17 @@ use Rattle.flux_base.specs.declared.outside.Failed.{Failed}
 use Rattle.flux_base.specs.declared.status.Status.{Status}
 use Rattle.flux_base.specs.declared.status.Status.TheVariants.{Refused, ReadFault, NotesFault, Memory, ShelfFault}
 use Rattle.flux_base.specs.declared.track.TrackId.{TrackId}
+use Rattle.flux_engine.specs.Plans.{decoding}
 use Rattle.sector_images.specs.Places.{tracks}
 use Rattle.sector_images.specs.declared.format.Format.{Format}
 use Rattle.track_shelf.specs.Files.{LeavesWanted, NamesMissing}
 use Rattle.track_shelf.specs.Names.{missing_text}
 use Rattle.track_shelf.specs.Told.{with_failed}
+use Rattle.flux_cli.specs.PlanWork.{planned_work}
 use Rattle.flux_cli.specs.Runs.{Does, growth}
 use Rattle.flux_cli.specs.Work.{Got, GotPart}
 use Rattle.flux_cli.specs.World.{ShelfMoment, OnShelf, as_source, told_at}
-use Rattle.flux_words.specs.declared.command.Command.TheVariants.{Decode}
+use Rattle.flux_words.specs.declared.commands.Output.TheVariants.{ImageAndReport}
 
 -- The shelf stayed as it was but for how often it failed, and for which of its files did: the files that lie on it, none of which is open that was not,
 -- its own bytes as a source, and what its reads gave.
@@ -57,7 +59,7 @@ pub record DecodesShelf {H W N : Type 0} (format : Format) (status : Status) (be
   pub inner : Status
   pub status_is : status ≡ over_shelf inner
   pub enough : inner ≢ Memory
-  pub does : Does (Decode format) inner (as_source before) (as_source after)
+  pub does : Does (planned_work decoding ImageAndReport format) inner (as_source before) (as_source after)
 
 -- what was done by what `begin` answered
 abbrev pub DidBy : {H W N : Type 0} → Format → Result (Option ℕ) Failed → Status → (before after : OnShelf H W N) → Type 0

@@ -9,19 +9,13 @@ use Rattle.g64_image.specs.Layout.{g64_file}
 use Rattle.g64_image.specs.Lines.{g64_text}
 use Rattle.g64_image.specs.declared.fault.G64Fault.{G64Fault}
 use Rattle.sector_images.specs.declared.format.Format.{Format}
-use Rattle.sector_report.specs.declared.totals.Totals.{Totals}
-use Rattle.flux_cli.specs.DisksWork.{status_of}
+use Rattle.flux_cli.specs.PlanWork.{status_by}
 use Rattle.flux_cli.specs.ImagesWork.{image_work}
-use Rattle.flux_cli.specs.Work.{Growth, GotNothing, GotPart, Outcome, Work}
+use Rattle.flux_cli.specs.Work.{Growth, GotNothing, GotPart, Outcome, Work, ends_in_memory}
 
 -- the file of an image
 abbrev pub to_g64_work : Format → Work
 to_g64_work format = image_work (g64_file format) format
-
--- whether every sector is good
-abbrev pub file_status : Totals → Option G64Fault → Status
-file_status totals None = status_of totals None
-file_status totals (Some fault) = Refused
 
 -- why the file is refused, if it is
 abbrev pub file_refusal : Option G64Fault → List ℕ
@@ -30,7 +24,7 @@ file_refusal (Some fault) = g64_text fault
 
 -- the image, and in the notes the report, or why there is none
 abbrev pub from_g64_outcome : FileDisk → Outcome
-from_g64_outcome d = record { status = file_status d.totals d.stop; image = d.image; notes = d.notes ++ file_refusal d.stop }
+from_g64_outcome d = record { status = status_by d.totals d.stop; image = d.image; notes = d.notes ++ file_refusal d.stop }
 
 -- a file is taken to its end, and a refused one at most to one byte more than a file may have
 abbrev pub from_g64_leaves : Status → (x later : List ℕ) → Type 0
@@ -77,6 +71,7 @@ from_g64_cut format _ taken later image notes = ⊥
 -- after no more bytes than a file may have, more may follow
 abbrev pub from_g64_work : Format → Work
 from_g64_work format = record {
+  ends = ends_in_memory;
   gives = λ x o. (d : FileDisk) × IsFileDisk format x d × (o ≡ from_g64_outcome d);
   untold = λ x. length x < MOST_BYTES + 1;
   leaves = from_g64_leaves;

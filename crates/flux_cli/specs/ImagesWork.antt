@@ -7,7 +7,7 @@ use Rattle.flux_engine.specs.Writes.{most_read}
 use Rattle.sector_images.specs.Formats.{row}
 use Rattle.sector_images.specs.declared.format.Format.{Format}
 use Rattle.sector_report.specs.Lines.{image_text}
-use Rattle.flux_cli.specs.Work.{Outcome, Growth, GotNothing, GivesFront, Work}
+use Rattle.flux_cli.specs.Work.{Outcome, Growth, GotNothing, GivesFront, Work, ends_in_memory}
 
 -- an image is taken to its end, and of other bytes no more than one more than it has
 abbrev pub image_leaves : Format → Status → (x later : List ℕ) → Type 0
@@ -39,6 +39,7 @@ module _ (made_of : List ℕ → List ℕ) (format : Format) where
   -- after no more bytes than an image has, more may follow
   abbrev pub image_work : Work
   image_work = record {
+    ends = ends_in_memory;
     gives = λ x o. o ≡ image_outcome x;
     untold = λ x. length x < most_read format;
     leaves = image_leaves format;

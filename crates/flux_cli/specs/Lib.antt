@@ -3,18 +3,14 @@ pub mod World
 pub mod Turns
 pub mod Work
 pub mod TurnsWork
-pub mod DisksWork
 pub mod ImagesWork
 pub mod G64Work
 pub mod TrialWork
 pub mod PagesWork
 pub mod PlanWork
-pub mod MapWork
 pub mod Works
 pub mod Runs
 pub mod Blamed
-pub mod PlanRuns
-pub mod DisksRuns
 pub mod FolderRuns
 pub mod EmptyText
 pub mod ShelfWork
@@ -25,6 +21,6 @@ pub mod Endings
 pub mod ShelfRuns
 pub mod OutputTold
 pub mod ReadHeadline
-pub mod Captured
 pub mod Headlines
+pub mod Captured
 pub mod Promises

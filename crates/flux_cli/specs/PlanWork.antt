@@ -1,10 +1,14 @@
--- The work of a command that reads a disk by a plan: of `decode-set`, and of `rescue`.
-use Rattle.std.specs.Prelude.{◌≡◌, ◌⊎◌, ℕ, ◌+◌, ◌*◌, ◌++◌, List, [], length, Option, Some, None}
+-- The work of a command over a disk's streams: in which way they are read, and what of it is given. `decode`, `report`, `map`,
+-- `decode-set` and `rescue` are its cases.
+use Rattle.std.specs.Prelude.{◌≡◌, ◌==◌, ◌⊎◌, ℕ, ◌+◌, ◌*◌, ◌++◌, List, [], length, Option, Some, None, if◌then◌else◌}
+use Rattle.disk_map.specs.Answers.{StoppedInPicture}
+use Rattle.disk_map.specs.Maps.{drawn_by, picture_of}
+use Rattle.disk_map.specs.Texts.{top_text}
 use Rattle.flux_base.specs.declared.status.Status.{Status}
 use Rattle.flux_base.specs.declared.status.Status.TheVariants.{AllGood, NotAllGood, Refused, ReadFault, ImageFault, NotesFault}
 use Rattle.flux_engine.specs.Answers.{AppendsAndPart, IsTakenBehind}
 use Rattle.flux_engine.specs.PlanAnswers.{PlanStoppedInImage, PlanStoppedInLines, PlanStoppedInTotal}
-use Rattle.flux_engine.specs.Plans.{EndsInPlan, IsFirstFault, IsPlanned, PlanStop, Planned, streams_in}
+use Rattle.flux_engine.specs.Plans.{EndsInPlan, IsFirstFault, IsPlanned, PartOf, PlanStop, Planned, streams_in}
 use Rattle.flux_engine.specs.Tracks.{part_by}
 use Rattle.flux_engine.specs.declared.plan.Plan.{Plan}
 use Rattle.kryo_stream.specs.declared.fault.StreamFault.TheVariants.{Truncated}
@@ -14,14 +18,19 @@ use Rattle.sector_report.specs.Lines.{refused_capture_text, refused_text}
 use Rattle.sector_report.specs.declared.naming.Naming.{Naming}
 use Rattle.sector_report.specs.declared.naming.Naming.TheVariants.{ByCapture, ByCaptureAndClock, ByClock, Unnamed}
 use Rattle.sector_report.specs.declared.totals.Totals.{Totals}
-use Rattle.flux_cli.specs.DisksWork.{status_of}
 use Rattle.flux_cli.specs.TurnsWork.{MOST_AT_ONCE}
-use Rattle.flux_cli.specs.Work.{Outcome, Growth, Got, Work}
+use Rattle.flux_cli.specs.Work.{Outcome, Growth, Got, GotNothing, Work, ends_in_memory}
+use Rattle.flux_words.specs.declared.commands.Output.{Output}
+use Rattle.flux_words.specs.declared.commands.Output.TheVariants.{ImageAndReport, ReportAlone, Picture}
 
 -- whether every sector is good
-abbrev pub planned_status : Totals → Option PlanStop → Status
-planned_status totals None = status_of totals None
-planned_status totals (Some stop) = Refused
+abbrev pub status_of : Totals → Status
+status_of totals = if totals.good == totals.sectors then AllGood else NotAllGood
+
+-- or a fault refuses the input
+abbrev pub status_by : {A : Type 0} → Totals → Option A → Status
+status_by totals None = status_of totals
+status_by totals (Some fault) = Refused
 
 -- why the disk is refused: with the capture where lines name captures
 abbrev pub stop_text : Naming → PlanStop → List ℕ
@@ -35,59 +44,109 @@ abbrev pub planned_refusal : Naming → Option PlanStop → List ℕ
 planned_refusal naming None = []
 planned_refusal naming (Some stop) = stop_text naming stop
 
-abbrev pub planned_outcome : Naming → Planned → Outcome
-planned_outcome naming d = record {
-  status = planned_status d.totals d.stop;
-  image = d.image;
-  notes = d.notes ++ planned_refusal naming d.stop;
+-- what becomes of a track: its part of the image and its lines, or its fields in a picture
+abbrev pub part_shown : Output → Naming → PartOf
+part_shown ImageAndReport naming = part_by naming
+part_shown ReportAlone naming = part_by naming
+part_shown Picture naming = drawn_by naming
+
+-- what of a disk goes to the sink of the image: the image; or the report in its place, or the picture
+abbrev pub to_image : Output → Format → Planned → List ℕ
+to_image ImageAndReport format d = d.image
+to_image ReportAlone format d = d.notes
+to_image Picture format d = picture_of format d
+
+-- what of it stands there where the source fails: of a picture all but its foot
+abbrev pub to_image_cut : Output → Format → Planned → List ℕ
+to_image_cut ImageAndReport format d = d.image
+to_image_cut ReportAlone format d = d.notes
+to_image_cut Picture format d = top_text format ++ d.image
+
+-- what of it goes to the sink of the notes, where the refusal stands after it
+abbrev pub to_notes : Output → Planned → List ℕ
+to_notes ImageAndReport d = d.notes
+to_notes ReportAlone d = []
+to_notes Picture d = []
+
+abbrev pub planned_outcome : Output → Naming → Format → Planned → Outcome
+planned_outcome output naming format d = record {
+  status = status_by d.totals d.stop;
+  image = to_image output format d;
+  notes = to_notes output d ++ planned_refusal naming d.stop;
 }
 
 -- what the streams of an input come to by the plan
-abbrev pub IsRead : Plan → Format → (x : List ℕ) → Planned → Type 0
-IsRead plan format x d = IsPlanned plan (part_by plan.naming) format (streams_in plan x) d
+abbrev pub IsRead : Plan → Output → Format → (x : List ℕ) → Planned → Type 0
+IsRead plan output format x d = IsPlanned plan (part_shown output plan.naming) format (streams_in plan x) d
 
 -- the wanted streams are taken to their End, and a little after the last
 abbrev pub planned_leaves : Plan → Format → Status → (x later : List ℕ) → Type 0
-planned_leaves plan format AllGood x later = IsTakenBehind x later (length (tracks format) * plan.captures) 4096
-planned_leaves plan format NotAllGood x later = IsTakenBehind x later (length (tracks format) * plan.captures) 4096
+planned_leaves plan format AllGood x later =
+    IsTakenBehind x later (length (tracks format) * plan.captures) 4096
+planned_leaves plan format NotAllGood x later =
+    IsTakenBehind x later (length (tracks format) * plan.captures) 4096
 planned_leaves plan format Refused x later =
-    (stop : PlanStop) × IsFirstFault plan format (streams_in plan x) stop × IsTakenBehind x later (stop.track * plan.captures + stop.capture) MOST_AT_ONCE
+    (stop : PlanStop) × IsFirstFault plan format (streams_in plan x) stop
+    × IsTakenBehind x later (stop.track * plan.captures + stop.capture) MOST_AT_ONCE
 planned_leaves plan format _ x later = ⊥
 
 -- the source failed inside a stream: all was written that the bytes taken come to, and they end inside a block
-pub record CutInPlannedReading (plan : Plan) (format : Format) (taken : List ℕ) (image notes : Growth) : Type 0 where
+pub record CutInReading (plan : Plan) (output : Output) (format : Format) (taken : List ℕ) (image notes : Growth) : Type 0 where
   pub decoded : Planned
-  pub is : IsRead plan format taken decoded
-  pub image_got : Got image decoded.image
-  pub notes_got : Got notes decoded.notes
+  pub is : IsRead plan output format taken decoded
+  pub image_got : Got image (to_image_cut output format decoded)
+  pub notes_got : Got notes (to_notes output decoded)
   pub stop : PlanStop
   pub stops : decoded.stop ≡ Some stop
   pub cut_short : stop.fault ≡ Truncated
 
 -- all was written of a refused disk but the line that says why: of it a part that is shorter than it
-pub record CutInPlannedRefusal (plan : Plan) (format : Format) (x later : List ℕ) (image notes : Growth) : Type 0 where
+pub record CutInRefusal (plan : Plan) (output : Output) (format : Format) (x later : List ℕ) (image notes : Growth) : Type 0 where
   pub decoded : Planned
-  pub is : IsRead plan format x decoded
+  pub is : IsRead plan output format x decoded
   pub stop : PlanStop
   pub stops : decoded.stop ≡ Some stop
-  pub image_got : Got image decoded.image
-  pub notes_got : AppendsAndPart notes.before notes.after decoded.notes (stop_text plan.naming stop)
+  pub image_got : Got image (to_image output format decoded)
+  pub notes_got : AppendsAndPart notes.before notes.after (to_notes output decoded) (stop_text plan.naming stop)
   pub taken : IsTakenBehind x later (stop.track * plan.captures + stop.capture) MOST_AT_ONCE
 
-abbrev pub planned_cut : Plan → Format → Status → (taken later : List ℕ) → (image notes : Growth) → Type 0
-planned_cut plan format ReadFault taken later image notes = CutInPlannedReading plan format taken image notes
-planned_cut plan format ImageFault taken later image notes =
-    PlanStoppedInImage plan (part_by plan.naming) format (taken ++ later) later image.before image.after notes.before notes.after
-planned_cut plan format NotesFault taken later image notes =
-    (PlanStoppedInLines plan (part_by plan.naming) format (taken ++ later) later image.before image.after notes.before notes.after
-    ⊎ PlanStoppedInTotal plan (part_by plan.naming) format (taken ++ later) later image.before image.after notes.before notes.after)
-    ⊎ CutInPlannedRefusal plan format (taken ++ later) later image notes
-planned_cut plan format _ taken later image notes = ⊥
+-- a sink cut the report: in a track's lines, or in the total line
+abbrev pub CutInReport : Plan → Format → (x later : List ℕ) → (image notes : Growth) → Type 0
+CutInReport plan format x later image notes =
+    PlanStoppedInLines plan (part_by plan.naming) format x later image.before image.after notes.before notes.after
+    ⊎ PlanStoppedInTotal plan (part_by plan.naming) format x later image.before image.after notes.before notes.after
 
-abbrev pub planned_work : Plan → Format → Work
-planned_work plan format = record {
-  gives = λ x o. (d : Planned) × IsRead plan format x d × (o ≡ planned_outcome plan.naming d);
+-- where the report stands alone, the image goes nowhere
+abbrev pub nowhere : Growth
+nowhere = record { before = None; after = None }
+
+-- the sink of the image cut what it was to get
+abbrev pub CutByImage : Plan → Output → Format → (x later : List ℕ) → (image notes : Growth) → Type 0
+CutByImage plan ImageAndReport format x later image notes =
+    PlanStoppedInImage plan (part_by plan.naming) format x later image.before image.after notes.before notes.after
+CutByImage plan ReportAlone format x later image notes = CutInReport plan format x later nowhere image × GotNothing notes
+CutByImage plan Picture format x later image notes =
+    StoppedInPicture plan format x later image.before image.after × GotNothing notes
+
+-- the sink of the notes cut the report, if that goes there
+abbrev pub CutByNotes : Plan → Output → Format → (x later : List ℕ) → (image notes : Growth) → Type 0
+CutByNotes plan ImageAndReport format x later image notes = CutInReport plan format x later image notes
+CutByNotes plan ReportAlone format x later image notes = ⊥
+CutByNotes plan Picture format x later image notes = ⊥
+
+abbrev pub planned_cut : Plan → Output → Format → Status → (taken later : List ℕ) → (image notes : Growth) → Type 0
+planned_cut plan output format ReadFault taken later image notes = CutInReading plan output format taken image notes
+planned_cut plan output format ImageFault taken later image notes = CutByImage plan output format (taken ++ later) later image notes
+planned_cut plan output format NotesFault taken later image notes =
+    CutByNotes plan output format (taken ++ later) later image notes
+    ⊎ CutInRefusal plan output format (taken ++ later) later image notes
+planned_cut plan output format _ taken later image notes = ⊥
+
+abbrev pub planned_work : Plan → Output → Format → Work
+planned_work plan output format = record {
+  ends = ends_in_memory;
+  gives = λ x o. (d : Planned) × IsRead plan output format x d × (o ≡ planned_outcome output plan.naming format d);
   untold = EndsInPlan plan format;
   leaves = planned_leaves plan format;
-  cut = planned_cut plan format;
+  cut = planned_cut plan output format;
 }

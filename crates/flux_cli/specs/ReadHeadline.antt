@@ -19,7 +19,9 @@ use Rattle.track_shelf.specs.DumpKinds.{kind_in}
 use Rattle.flux_cli.specs.EmptyText.{empty_text}
 use Rattle.track_shelf.specs.Files.{File}
 use Rattle.turn_merge.specs.Readings.{verdict}
-use Rattle.flux_words.specs.DumpWords.{AreReadWords, Asked, CanBeRead, shown_of}
+use Rattle.flux_words.specs.Asked.{some_dumps}
+use Rattle.flux_words.specs.CommandWords.{AreWordsOf}
+use Rattle.flux_words.specs.DumpWords.{Asked as AskedDumps, shown_of}
 use Rattle.flux_cli.specs.AskedDisks.{asked_disk}
 use Rattle.flux_cli.specs.ReadRuns.{read_status}
 use Rattle.flux_cli.specs.Runs.{growth}
@@ -107,5 +109,5 @@ GaveDumpsOrCut shown disk files ShelfFault before after = GaveShown shown disk f
 
 -- The headline of `read`.
 abbrev pub ReadsAsExpected : {H W N : Type 0} → (words : List (List ℕ)) → Status → (before after : OnShelf H W N) → Type 0
-ReadsAsExpected words status before after = (asked : Asked) (files : List File) → AreReadWords asked words → CanBeRead asked
+ReadsAsExpected words status before after = (asked : AskedDumps) (files : List File) → AreWordsOf (some_dumps asked) words
     → before.shelf.files ≡ Some files → GaveDumpsOrCut (shown_of asked.options) (asked_disk asked) files status before after

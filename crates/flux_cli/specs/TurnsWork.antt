@@ -9,7 +9,7 @@ use Rattle.kryo_stream.specs.declared.fault.StreamFault.{StreamFault}
 use Rattle.kryo_stream.specs.declared.fault.StreamFault.TheVariants.{Truncated}
 use Rattle.sector_report.specs.Lines.{refused_text}
 use Rattle.flux_cli.specs.Turns.{turns_text}
-use Rattle.flux_cli.specs.Work.{Outcome, Growth, GotNothing, GivesFront, Work}
+use Rattle.flux_cli.specs.Work.{Outcome, Growth, GotNothing, GivesFront, Work, ends_in_memory}
 
 -- the most bytes of padding before a stream, of the stream, and of what an intake holds after it
 abbrev pub MOST_AT_ONCE : ℕ
@@ -44,4 +44,10 @@ turns_cut _ taken later image notes = ⊥
 
 -- after bytes that end inside a block the stream may go on
 abbrev pub turns_work : Work
-turns_work = record { gives = λ x o. o ≡ turns_outcome x; untold = DoNotTell false; leaves = turns_leaves; cut = turns_cut }
+turns_work = record {
+  ends = ends_in_memory;
+  gives = λ x o. o ≡ turns_outcome x;
+  untold = DoNotTell false;
+  leaves = turns_leaves;
+  cut = turns_cut;
+}

@@ -3,6 +3,7 @@ use Rattle.std.specs.Prelude.{ℕ, List, take, Option}
 use Rattle.std.specs.Io.KnownBytes.{Appends, Keeps}
 use Rattle.flux_base.specs.Outside.{AppendsPart}
 use Rattle.flux_base.specs.declared.status.Status.{Status}
+use Rattle.flux_base.specs.declared.status.Status.TheVariants.{Usage, Memory}
 
 -- a status, the bytes for the image and the bytes for the notes
 pub record Outcome : Type 0 where
@@ -36,8 +37,19 @@ pub record GivesFront (o : Outcome) (image notes : Growth) : Type 0 where
   pub image_front : GotFront image o.image
   pub notes_front : GotFront notes o.notes
 
+-- No command ends as words do that ask for nothing; one that takes no memory never ends for want of it.
+abbrev pub ends_in_memory : Status → Type 0
+ends_in_memory Usage = ⊥
+ends_in_memory _ = Unit {0}
+
+abbrev pub ends_memoryless : Status → Type 0
+ends_memoryless Memory = ⊥
+ends_memoryless status = ends_in_memory status
+
 -- The row of one command.
 pub record Work : Type 1 where
+  -- with which statuses it may end
+  pub ends : Status → Type 0
   -- what the input x comes to
   pub gives : (x : List ℕ) → Outcome → Type 0
   -- bytes x of the front of an input do not tell what it comes to: the source is read after such bytes alone

@@ -1,30 +1,36 @@
 -- What there is to do for the words: a row for each command, and one for words that are none.
 use Rattle.std.specs.Prelude.{◌≡◌, ℕ, List, [], Option, Some, None}
-use Rattle.capture_set.specs.Sets.{set_plan}
-use Rattle.disk_rescue.specs.Rescued.{rescuing}
 use Rattle.flux_base.specs.declared.status.Status.{Status}
 use Rattle.flux_base.specs.declared.status.Status.TheVariants.{Usage, NotesFault}
+use Rattle.flux_engine.specs.Plans.{decoding, rescuing, set_plan}
 use Rattle.flux_help.specs.WrongWords.{wrong_text}
-use Rattle.flux_words.specs.Commands.{AskFor}
-use Rattle.flux_cli.specs.DisksWork.{disk_work}
-use Rattle.flux_words.specs.DumpWords.{NamesDumps}
-use Rattle.flux_words.specs.FolderWords.{NamesFolder}
+use Rattle.flux_engine.specs.declared.plan.Plan.{Plan}
+use Rattle.sector_images.specs.declared.format.Format.{Format}
+use Rattle.flux_words.specs.Asked.{Asked, the_turns, some_streams, a_folder, some_dumps, a_sector, an_identity, written_streams, a_trial, a_g64_file, an_image_of_g64, a_page}
+use Rattle.flux_words.specs.CommandWords.{AskFor}
+use Rattle.flux_words.specs.DumpWords.{shown_of}
+use Rattle.flux_words.specs.declared.commands.Way.{Way}
+use Rattle.flux_words.specs.declared.commands.Way.TheVariants.{Once, Often, ByBothClocks}
+use Rattle.flux_cli.specs.AskedDisks.{asked_disk, shown_sector}
+use Rattle.flux_cli.specs.IdentityRuns.{identity_work}
+use Rattle.flux_cli.specs.ReadRuns.{read_work}
+use Rattle.flux_cli.specs.SectorRuns.{sector_work}
+use Rattle.flux_cli.specs.ShelfWork.{ShelfWork}
 use Rattle.flux_words.specs.G64Disks.{format_of}
 use Rattle.flux_cli.specs.G64Work.{from_g64_work, to_g64_work}
-use Rattle.flux_words.specs.IdentityWords.{NamesIdentity}
-use Rattle.flux_words.specs.SectorWords.{NamesShow}
 use Rattle.flux_cli.specs.ImagesWork.{write_work}
 use Rattle.flux_cli.specs.PlanWork.{planned_work}
-use Rattle.flux_cli.specs.MapWork.{map_work}
 use Rattle.flux_cli.specs.PagesWork.{page_work}
 use Rattle.flux_cli.specs.TrialWork.{trial_work}
 use Rattle.flux_cli.specs.TurnsWork.{turns_work}
 use Rattle.flux_cli.specs.Work.{Outcome, Growth, GotNothing, GotPart, Work}
-use Rattle.flux_words.specs.declared.command.Command.{Command}
-use Rattle.flux_words.specs.declared.command.Command.TheVariants.{Turns, Decode, Report, Map, Write, Trial, ToG64, FromG64, DecodeSet, Rescue, Tell}
-use Rattle.flux_words.specs.declared.command.Output.TheVariants.{ImageAndReport, ReportAlone}
 
 -- nothing is read, and the notes get a text
+abbrev pub usage_ends : Status → Type 0
+usage_ends Usage = Unit {0}
+usage_ends NotesFault = Unit {0}
+usage_ends _ = ⊥
+
 abbrev pub usage_leaves : Status → (x later : List ℕ) → Type 0
 usage_leaves Usage x later = later ≡ x
 usage_leaves _ x later = ⊥
@@ -35,31 +41,54 @@ usage_cut text _ taken later image notes = ⊥
 
 abbrev pub usage_work : List ℕ → Work
 usage_work text = record {
+  ends = usage_ends;
   gives = λ x o. o ≡ record { status = Usage; image = []; notes = text };
   untold = λ x. ⊥;
   leaves = usage_leaves;
   cut = usage_cut text;
 }
 
--- the row of a command
-abbrev pub work_of : Command → Work
-work_of Turns = turns_work
-work_of (Decode format) = disk_work ImageAndReport format
-work_of (Report format) = disk_work ReportAlone format
-work_of (Map format) = map_work format
-work_of (Write format) = write_work format
-work_of (Trial format seed) = trial_work format seed
-work_of (ToG64 disk) = to_g64_work (format_of disk)
-work_of (FromG64 disk) = from_g64_work (format_of disk)
-work_of (DecodeSet format count) = planned_work (set_plan count) format
-work_of (Rescue format) = planned_work rescuing format
-work_of (Tell page) = page_work page
+-- What there is to do: with the bytes of the source, with the files of the shelf, or with those of a folder there.
+pub data Row : Type 1 where
+  with_bytes : Work → Row
+  with_files : ShelfWork → Row
+  with_folder : Format → (folder : List ℕ) → Row
 
--- the row of what these words ask for: where they are no command, they are told what is wrong with them
-abbrev pub work_for : List (List ℕ) → Option Command → Work
-work_for words None = usage_work (wrong_text words)
-work_for words (Some command) = work_of command
+-- by what plan streams are read
+abbrev pub plan_of : Way → Plan
+plan_of Once = decoding
+plan_of (Often count) = set_plan count
+plan_of ByBothClocks = rescuing
 
--- this is the outcome of the words over the input, where they name neither a folder nor a dump
+-- the row of what is asked
+abbrev pub row_of : Asked → Row
+row_of the_turns = with_bytes turns_work
+row_of (some_streams asked) = with_bytes (planned_work (plan_of asked.way) asked.output asked.format)
+row_of (a_folder format folder) = with_folder format folder
+row_of (some_dumps asked) = with_files (read_work (shown_of asked.options) (asked_disk asked))
+row_of (a_sector asked) = with_files (sector_work (shown_sector asked))
+row_of (an_identity dump) = with_files (identity_work dump)
+row_of (written_streams format) = with_bytes (write_work format)
+row_of (a_trial format seed) = with_bytes (trial_work format seed)
+row_of (a_g64_file disk) = with_bytes (to_g64_work (format_of disk))
+row_of (an_image_of_g64 disk) = with_bytes (from_g64_work (format_of disk))
+row_of (a_page page) = with_bytes (page_work page)
+
+-- and where the words are no command: they are told what is wrong with them
+abbrev pub row_for : List (List ℕ) → Option Asked → Row
+row_for words None = with_bytes (usage_work (wrong_text words))
+row_for words (Some asked) = row_of asked
+
+-- it is done with the bytes of the source
+abbrev pub IsWithBytes : Row → Type 0
+IsWithBytes (with_bytes work) = Unit {0}
+IsWithBytes _ = ⊥
+
+-- this is the outcome of the row over the input
+abbrev pub GivesOf : Row → List ℕ → Outcome → Type 0
+GivesOf (with_bytes work) x o = work.gives x o
+GivesOf _ x o = ⊥
+
+-- and of the words, where they do not ask for what is on the shelf
 abbrev pub IsOutcome : List (List ℕ) → List ℕ → Outcome → Type 0
-IsOutcome words x o = NamesFolder words None × NamesDumps words None × NamesIdentity words None × NamesShow words None × (asked : Option Command) × AskFor words asked × (work_for words asked).gives x o
+IsOutcome words x o = (asked : Option Asked) × AskFor words asked × GivesOf (row_for words asked) x o

@@ -1,13 +1,13 @@
 //! How a command ends by what its work answered: one function for each kind of answer. Notes say why an input is refused.
 
 ghost use Rattle.std.specs.Prelude.{◌≡◌, [], get_or};
-ghost use Rattle.flux_cli.specs.Endings.{EndsBy, EndsDumps, EndsFault, disk_ending, file_ending, image_ending, plan_ending, refusal, refuses, written_status};
+ghost use Rattle.flux_cli.specs.Endings.{EndsBy, EndsDumps, EndsFault, file_ending, image_ending, plan_ending, refusal, refuses, written_status};
 ghost use Rattle.flux_cli.specs.IdentityRuns.{identity_status};
+ghost use Rattle.flux_cli.specs.PlanWork.{status_of as totals_status};
 ghost use Rattle.flux_cli.specs.ReadRuns.{read_status};
 ghost use Rattle.flux_cli.specs.SectorRuns.{sector_status};
 ghost use Rattle.flux_base.specs.World.{sink_at};
 
-use crate::disks::status_of;
 use crate::empty::write_empty;
 use crate::identity::status_of as status_of_identity;
 use crate::planned::stop_line;
@@ -15,10 +15,10 @@ use crate::read::status_of as status_of_dumps;
 use dump_identity::Identity;
 use dump_reading::{DumpTotals, DumpsFault};
 use flux_base::{Failed, Sink, Status, Word};
-use flux_engine::{EngineFault, PlanFault, WriteFault};
+use flux_engine::{PlanFault, WriteFault};
 use g64_image::{FromStop, g64_line};
 use sector_copies::SectorTotals;
-use sector_report::{Line, Naming, Totals, image_line, refused_line, write_line};
+use sector_report::{Line, Naming, Totals, image_line, write_line};
 use track_shelf::Shelf;
 
 /// Writes the line that says why an input is refused.
@@ -35,25 +35,6 @@ pub(crate) fn end_of_writing(answer: Result<(), Failed>) -> Status
     match answer {
         Ok(()) => Status::AllGood,
         Err(_) => Status::ImageFault,
-    }
-}
-
-/// Ends a disk that was decoded, or whose report was written.
-pub(crate) fn end_of_disk<N: Sink>(answer: Result<Totals, EngineFault>, notes: &mut N) -> Status
-    ensures { EndsBy (disk_ending answer) result (sink_at N.Sink notes.old) (sink_at N.Sink notes.new) }
-{
-    match answer {
-        Ok(totals) => status_of(&totals),
-        Err(EngineFault::ReadFault) => Status::ReadFault,
-        Err(EngineFault::ImageFault) => Status::ImageFault,
-        Err(EngineFault::NotesFault) => Status::NotesFault,
-        Err(
-            EngineFault::Refused {
-                track,
-                block,
-                fault,
-            },
-        ) => refuse(&refused_line(track, block, &fault), notes),
     }
 }
 
@@ -78,6 +59,17 @@ pub(crate) fn end_of_plan<N: Sink>(
                 fault,
             },
         ) => refuse(&stop_line(naming, track, capture, block, &fault), notes),
+    }
+}
+
+/// Whether every sector of a disk is good.
+fn status_of(totals: &Totals) -> Status
+    ensures { result ≡ totals_status totals.now }
+{
+    if totals.good == totals.sectors {
+        Status::AllGood
+    } else {
+        Status::NotAllGood
     }
 }
 

@@ -9,10 +9,10 @@ ghost use Rattle.flux_cli.specs.FolderRuns.{DidFolder};
 ghost use Rattle.flux_cli.specs.World.{on_shelf_at};
 ghost use Rattle.flux_engine.specs.Room.{fresh};
 
-use crate::disks::decode;
 use crate::endings::refuse;
+use crate::planned::decode;
 use flux_base::{Failed, Sink, Status};
-use flux_engine::DiskRoom;
+use flux_engine::{DiskRoom, decoding_plan};
 use flux_words::Output;
 use sector_images::{Format, track_id, tracks_keep_bounds};
 use track_shelf::{Shelf, missing_line};
@@ -37,10 +37,13 @@ pub fn decode_folder<H: Shelf, W: Sink, N: Sink>(
     ensures memory { result ≢ Status.Memory }
 {
     match shelf.begin(folder, format) {
-        Ok(None) => match decode(room, Output::ImageAndReport, shelf, image, notes) {
-            Status::ReadFault => Status::ShelfFault,
-            status => status,
-        },
+        Ok(None) => {
+            let plan = decoding_plan();
+            match decode(room, plan, Output::ImageAndReport, shelf, image, notes) {
+                Status::ReadFault => Status::ShelfFault,
+                status => status,
+            }
+        }
         Ok(Some(number)) => {
             tracks_keep_bounds();
             refuse(&missing_line(number, track_id(format, number)), notes)

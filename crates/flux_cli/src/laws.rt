@@ -21,10 +21,7 @@ pub fn outcomes_are_one()
 {
     words_name_formats();
     g64_image::file_disks_are_one();
-    capture_set::sets_are_one();
-    disk_rescue::rescues_are_one();
-    disk_map::maps_are_one();
-    flux_engine::outcomes_are_one()
+    flux_engine::plans_are_right()
 }
 
 /// What is shown, the dumps, the files on the shelf, and which of them failed, decide the outcome of `read`: there is one at most.

@@ -2,7 +2,6 @@
 //! (`std_streams`).
 #![tactic(auto)]
 
-mod disks;
 mod empty;
 mod endings;
 mod folder;

@@ -1,30 +1,21 @@
 ghost use Rattle.std.specs.Prelude.{false};
-ghost use Rattle.flux_base.specs.Blames.{CountsBy};
-ghost use Rattle.flux_base.specs.World.{counts_at};
-ghost use Rattle.flux_cli.specs.Blamed.{CountsOfRun, reads_dumps, source_blame, world_counts};
+ghost use Rattle.flux_cli.specs.Blamed.{CountsOfRun, reads_dumps, world_counts};
 ghost use Rattle.flux_cli.specs.Promises.{Promises};
-ghost use Rattle.flux_cli.specs.Runs.{RanOverSource};
 ghost use Rattle.flux_cli.specs.OutputTold.{RanAndTold, is_told};
 ghost use Rattle.flux_cli.specs.ShelfRuns.{Ran};
-ghost use Rattle.flux_cli.specs.World.{outside_at, world_at};
+ghost use Rattle.flux_cli.specs.World.{world_at};
 
 use crate::output_told::tell_output;
 use crate::shelf_task::{DecodeFolder, Identify, ShelfTask};
-use crate::task::{
-    DecodeSet, Decoding, FromG64, Map, Rescue, Task, Tell, ToG64, Trial, Turns, Write,
-};
+use crate::task::{FromG64, Task, Tell, ToG64, Trial, Turns, Write};
 use disk_map::dumps_are_drawn_as_reported;
 use flux_base::{Sink, Source, Status, Word};
-use flux_engine::{good_is_right_on_disks, lines_tell_verdicts};
 use flux_help::write_wrong_words;
 use flux_trial::whole_trials_have_one_line;
-use flux_words::{Command, Output, command_of, dumps_of, folder_of, identity_of, sector_of};
+use flux_words::{Command, command_of};
 use g64_image::{file_lines_tell, good_is_right_in_files, written_files_come_back};
-use law_captured_disks::captured_disks_decode;
 use law_captured_dumps::captured_dumps_are_read;
-use law_captured_plans::planned_lines_tell;
-use law_captured_rescues::{captured_disks_are_rescued, steady_disks_are_rescued};
-use law_captured_sets::captured_sets_decode;
+use law_captured_plans::{captured_plans_are_read, planned_lines_tell};
 use law_read_dumps::{complete_dumps_are_all_read, dump_reports_have_lines, dumps_say_each_sector};
 use law_reported_dumps::dump_lines_tell;
 use sector_images::words_name_formats;
@@ -63,15 +54,10 @@ pub fn run<S: Source, W: Sink, N: Sink, H: Shelf>(
         (world_at S.Source W.Sink N.Sink H.Source H.Shelf.own source.new image.new notes.new shelf.new) }
 {
     words_name_formats();
-    captured_disks_decode();
-    captured_sets_decode();
-    captured_disks_are_rescued();
-    steady_disks_are_rescued();
+    captured_plans_are_read();
+    planned_lines_tell();
     written_files_come_back();
     whole_trials_have_one_line();
-    lines_tell_verdicts();
-    good_is_right_on_disks();
-    planned_lines_tell();
     file_lines_tell();
     good_is_right_in_files();
     dumps_say_each_sector();
@@ -85,7 +71,7 @@ pub fn run<S: Source, W: Sink, N: Sink, H: Shelf>(
     status
 }
 
-/// Does what the words ask for, over the shelf where they name a folder.
+/// Does what the words ask for.
 fn run_words<S: Source, W: Sink, N: Sink, H: Shelf>(
     alloc: Global,
     words: &[Word],
@@ -101,61 +87,25 @@ fn run_words<S: Source, W: Sink, N: Sink, H: Shelf>(
         (world_counts (world_at S.Source W.Sink N.Sink H.Source H.Shelf.own source.old image.old notes.old shelf.old))
         (world_counts (world_at S.Source W.Sink N.Sink H.Source H.Shelf.own source.new image.new notes.new shelf.new)) }
 {
-    match folder_of(words) {
-        None => match dumps_of(words) {
-            None => match identity_of(words) {
-                None => match sector_of(words) {
-                    None => run_over_source(alloc, words, source, image, notes),
-                    Some(asked) => asked.run(alloc, shelf, image, notes),
-                },
-                Some(dump) => Identify { dump }.run(alloc, shelf, image, notes),
-            },
-            Some(asked) => asked.run(alloc, shelf, image, notes),
-        },
-        Some((format, folder)) => DecodeFolder { format, folder }.run(alloc, shelf, image, notes),
-    }
-}
-
-/// Does what the words ask for over the source.
-fn run_over_source<S: Source, W: Sink, N: Sink>(
-    alloc: Global,
-    words: &[Word],
-    source: &mut S,
-    image: &mut W,
-    notes: &mut N,
-) -> Status
-    ensures ran { RanOverSource words.now result
-        (outside_at S.Source W.Sink N.Sink source.old image.old notes.old)
-        (outside_at S.Source W.Sink N.Sink source.new image.new notes.new) }
-    ensures blames { CountsBy (source_blame result)
-        (counts_at S.Source W.Sink N.Sink source.old image.old notes.old)
-        (counts_at S.Source W.Sink N.Sink source.new image.new notes.new) }
-{
     match command_of(words) {
         None => match write_wrong_words(words, notes) {
             Ok(()) => Status::Usage,
             Err(_) => Status::NotesFault,
         },
         Some(Command::Turns) => Turns.run(alloc, source, image, notes),
-        Some(Command::Decode(format)) => {
-            let output = Output::ImageAndReport;
-            Decoding { output, format }.run(alloc, source, image, notes)
+        Some(Command::Streams(asked)) => asked.run(alloc, source, image, notes),
+        Some(Command::Folder(format, folder)) => {
+            DecodeFolder { format, folder }.run(alloc, shelf, image, notes)
         }
-        Some(Command::Report(format)) => {
-            let output = Output::ReportAlone;
-            Decoding { output, format }.run(alloc, source, image, notes)
-        }
-        Some(Command::Map(format)) => Map { format }.run(alloc, source, image, notes),
+        Some(Command::Dumps(asked)) => asked.run(alloc, shelf, image, notes),
+        Some(Command::Sector(asked)) => asked.run(alloc, shelf, image, notes),
+        Some(Command::Identify(dump)) => Identify { dump }.run(alloc, shelf, image, notes),
         Some(Command::Write(format)) => Write { format }.run(alloc, source, image, notes),
         Some(Command::Trial(format, seed)) => {
             Trial { format, seed }.run(alloc, source, image, notes)
         }
         Some(Command::ToG64(disk)) => ToG64 { disk }.run(alloc, source, image, notes),
         Some(Command::FromG64(disk)) => FromG64 { disk }.run(alloc, source, image, notes),
-        Some(Command::DecodeSet(format, count)) => {
-            DecodeSet { format, count }.run(alloc, source, image, notes)
-        }
-        Some(Command::Rescue(format)) => Rescue { format }.run(alloc, source, image, notes),
         Some(Command::Tell(page)) => Tell { page }.run(alloc, source, image, notes),
     }
 }

@@ -1,15 +1,16 @@
 //! What a command over the shelf promises, whichever it is, and each of these commands.
 
-ghost use Rattle.std.specs.Prelude.{◌≢◌, ◌≤◌, ◌<◌, Bool, true, false, length};
+ghost use Rattle.std.specs.Prelude.{◌≢◌};
 ghost use Rattle.flux_base.specs.declared.status.Status.{Status};
 ghost use Rattle.flux_base.specs.World.{counts_at};
-ghost use Rattle.flux_cli.specs.Blamed.{CountsOnShelf};
+ghost use Rattle.flux_cli.specs.Blamed.{CountsOnShelf, over_dumps};
 ghost use Rattle.flux_words.specs.DumpWords.{asked_of};
 ghost use Rattle.flux_words.specs.SectorWords.{asked_sector};
-ghost use Rattle.flux_cli.specs.ShelfRuns.{DoesOnShelf, OfShelf, a_folder, a_sector, an_identity, some_dumps};
+ghost use Rattle.flux_cli.specs.AskedDisks.{Keeps};
+ghost use Rattle.flux_cli.specs.ShelfRuns.{DoesOnShelf};
+ghost use Rattle.flux_cli.specs.Works.{row_of};
+ghost use Rattle.flux_words.specs.Asked.{Asked, a_folder, a_sector, an_identity, some_dumps};
 ghost use Rattle.flux_cli.specs.World.{on_shelf_at};
-ghost use Rattle.flux_engine.specs.Recordings.{track_at};
-ghost use Rattle.sector_images.specs.Places.{IsSector, tracks};
 
 use crate::endings::{end_of_identity, end_of_sector};
 use crate::folder::decode_folder;
@@ -27,22 +28,16 @@ use track_shelf::Shelf;
 
 /// A command over the shelf, with what its words ask for.
 pub(crate) trait ShelfTask<H: Shelf, W: Sink, N: Sink> {
-    /// What is asked of the shelf.
-    ghost asked: { Self → OfShelf };
-
-    /// Whether it reads dumps, whose files that fail are passed over.
-    ghost over_dumps: { Self → Bool } = { λ _. true };
-
-    /// What it keeps to.
-    ghost is_bounded: { Self → Type 0 } = { λ _. Unit {0} };
+    /// What is asked.
+    ghost asked: { Self → Asked };
 
     /// Does the command, in a room of its own.
     fn run(&self, alloc: Global, shelf: &mut H, image: &mut W, notes: &mut N) -> Status
-        requires { is_bounded self.now }
-        ensures did { DoesOnShelf (asked self.now) result
+        requires { Keeps (asked self.now) }
+        ensures did { DoesOnShelf (row_of (asked self.now)) result
             (on_shelf_at H.Source H.Shelf.own W.Sink N.Sink shelf.old image.old notes.old)
             (on_shelf_at H.Source H.Shelf.own W.Sink N.Sink shelf.new image.new notes.new) }
-        ensures blames { CountsOnShelf (over_dumps self.now) result
+        ensures blames { CountsOnShelf (over_dumps (asked self.now)) result
             (counts_at H.Source W.Sink N.Sink shelf.old image.old notes.old)
             (counts_at H.Source W.Sink N.Sink shelf.new image.new notes.new) }
         ensures no_source { result ≢ Status.ReadFault };
@@ -52,17 +47,22 @@ pub(crate) trait ShelfTask<H: Shelf, W: Sink, N: Sink> {
 #[derive(Clone, Copy)]
 pub(crate) struct DecodeFolder<'a> {
     pub(crate) format: Format,
-    pub(crate) folder: &'a [u8],
+    pub(crate) folder: &'a Word,
 }
 
 impl<H: Shelf, W: Sink, N: Sink> ShelfTask<H, W, N> for DecodeFolder<'_> {
     ghost asked = { λ task. a_folder task.format task.folder.now };
 
-    ghost over_dumps = { λ _. false };
-
     fn run(&self, alloc: Global, shelf: &mut H, image: &mut W, notes: &mut N) -> Status {
         match DiskRoom::reserve(alloc, self.format) {
-            Ok(mut room) => decode_folder(&mut room, self.format, self.folder, shelf, image, notes),
+            Ok(mut room) => decode_folder(
+                &mut room,
+                self.format,
+                self.folder.bytes(),
+                shelf,
+                image,
+                notes,
+            ),
             Err(Memory) => Status::Memory,
         }
     }
@@ -71,8 +71,6 @@ impl<H: Shelf, W: Sink, N: Sink> ShelfTask<H, W, N> for DecodeFolder<'_> {
 /// Reads a disk of its dumps, to its image and its report or to a picture.
 impl<H: Shelf, W: Sink, N: Sink> ShelfTask<H, W, N> for DumpsAsked<'_> {
     ghost asked = { λ task. some_dumps (asked_of task) };
-
-    ghost is_bounded = { λ task. length task.dumps.now ≤ 8 };
 
     fn run(&self, alloc: Global, shelf: &mut H, image: &mut W, notes: &mut N) -> Status {
         let dumps = Dumps {
@@ -110,9 +108,6 @@ impl<H: Shelf, W: Sink, N: Sink> ShelfTask<H, W, N> for Identify<'_> {
 /// dump has none of the disk's files.
 impl<H: Shelf, W: Sink, N: Sink> ShelfTask<H, W, N> for ShowAsked<'_> {
     ghost asked = { λ task. a_sector (asked_sector task) };
-
-    ghost is_bounded = { λ task.
-        (length task.dumps.now ≤ 8) × (task.number < length (tracks task.format)) × IsSector task.format (track_at task.format task.number) task.sector };
 
     fn run(&self, alloc: Global, shelf: &mut H, image: &mut W, notes: &mut N) -> Status {
         let dumps = Dumps {

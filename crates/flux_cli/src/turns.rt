@@ -5,8 +5,8 @@ ghost use Rattle.flux_base.specs.World.{sink_at, counts_at};
 ghost use Rattle.flux_cli.specs.Blamed.{source_blame};
 ghost use Rattle.flux_cli.specs.Runs.{Does};
 ghost use Rattle.flux_cli.specs.Turns.{turn_lines, turns_text};
+ghost use Rattle.flux_cli.specs.TurnsWork.{turns_work};
 ghost use Rattle.flux_cli.specs.World.{outside_at};
-ghost use Rattle.flux_words.specs.declared.command.Command.TheVariants.{Turns};
 ghost use Rattle.kryo_stream.specs.Room.{IsFresh};
 
 use crate::endings::refuse;
@@ -23,7 +23,7 @@ pub fn print_turns<S: Source, W: Sink, N: Sink>(
     notes: &mut N,
 ) -> Status
     requires { IsFresh room.old }
-    ensures does { Does Turns result
+    ensures does { Does turns_work result
         (outside_at S.Source W.Sink N.Sink source.old image.old notes.old)
         (outside_at S.Source W.Sink N.Sink source.new image.new notes.new) }
     ensures blames { CountsBy (source_blame result)

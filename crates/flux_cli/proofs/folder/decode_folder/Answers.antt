@@ -7,7 +7,8 @@ use Rattle.flux_cli.proofs.Ended.{missing-refused}
 use Rattle.flux_cli.proofs.EndingLaws.{IsOverShelf, IsOverSource, ended-by-line, ends-blame}
 use Rattle.flux_cli.specs.Endings.{refuses}
 use Rattle.flux_cli.specs.Blamed.{shelf_blame}
-use Rattle.flux_cli.proofs.FolderRun.{folder-decodes, folder-fails, folder-lacks, other_status}
+use Rattle.flux_cli.proofs.FolderRun.{decoded-so, folder-decodes, folder-fails, folder-lacks, other_status}
+use Rattle.flux_engine.specs.Room.{RoomState}
 use Rattle.flux_cli.proofs.folder.decode_folder.Goals as goal
 
 pub returns-in-ReadFault-clause-did : goal.returns-in-ReadFault-clause-did
@@ -16,7 +17,7 @@ returns-in-ReadFault-clause-did g c =
     folder-decodes c.args.format c.args.folder.now _ _ _ c.begin.result _
     (record { bound = e.bound; missing = e.missing; left = e.left; kept = e.kept; unhandled = e.unhandled; unread = e.unread; later = e.later; cause = e.cause })
     (c.in-Ok-None.is ∙ ap Ok c.in-Ok-None.field-0-is)
-    (record { inner = ReadFault; status_is = refl; enough = λ same. c.decode.ensures.memory (c.in-ReadFault.is ∙ same); does = rw c.requires at c.in-ReadFault.ensures.does })
+    (record { inner = ReadFault; status_is = refl; enough = λ same. c.decode.ensures.memory (c.in-ReadFault.is ∙ same); does = decoded-so c.decoding_plan-plan.result c.args.room.now.format c.args.format ReadFault _ _ c.decoding_plan-plan.ensures (ap (λ (room : RoomState). room.format) c.requires) c.in-ReadFault.ensures.does })
 
 pub returns-in_default-clause-did : goal.returns-in_default-clause-did
 returns-in_default-clause-did g c =
@@ -24,7 +25,7 @@ returns-in_default-clause-did g c =
     folder-decodes c.args.format c.args.folder.now _ _ _ c.begin.result _
     (record { bound = e.bound; missing = e.missing; left = e.left; kept = e.kept; unhandled = e.unhandled; unread = e.unread; later = e.later; cause = e.cause })
     (c.in-Ok-None.is ∙ ap Ok c.in-Ok-None.field-0-is)
-    (record { inner = c.decode.result; status_is = other_status c.decode.result c.in_default.not-ReadFault; enough = c.decode.ensures.memory; does = rw c.requires at c.decode.ensures.does })
+    (record { inner = c.decode.result; status_is = other_status c.decode.result c.in_default.not-ReadFault; enough = c.decode.ensures.memory; does = decoded-so c.decoding_plan-plan.result c.args.room.now.format c.args.format c.decode.result _ _ c.decoding_plan-plan.ensures (ap (λ (room : RoomState). room.format) c.requires) c.decode.ensures.does })
 
 pub returns-in_default-clause-memory : goal.returns-in_default-clause-memory
 returns-in_default-clause-memory g c = c.decode.ensures.memory

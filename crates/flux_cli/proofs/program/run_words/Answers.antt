@@ -1,52 +1,141 @@
-use Rattle.std.proofs.Common.{Some, true, false, refl}
-use Rattle.flux_words.specs.DumpWords.{asked_of}
+use Rattle.std.proofs.Common.{◌≡◌, Some, None, true, false, arith, refl}
+use Rattle.std.proofs.KnownBytes.{Appends-nil, Consumes-nil, Keeps-refl}
+use Rattle.flux_help.specs.WrongWords.{wrong_text}
+use Rattle.flux_base.specs.declared.status.Status.TheVariants.{NotesFault, ShelfFault, Usage}
+use Rattle.flux_base.specs.lemmas.Blaming.{CountsBy-notes}
+use Rattle.flux_engine.specs.lemmas.ReadLaws.{no_reads}
+use Rattle.flux_words.specs.Asked.{the_turns, some_streams, a_folder, some_dumps, a_sector, an_identity, written_streams, a_trial, a_g64_file, an_image_of_g64, a_page}
+use Rattle.flux_words.specs.DumpWords.{asked_of as asked_dumps}
 use Rattle.flux_words.specs.SectorWords.{asked_sector}
-use Rattle.flux_cli.proofs.Blaming.{folder-no-dump, identity-dumps, reads-dumps, run-of-shelf, shows-dumps}
-use Rattle.flux_cli.specs.ShelfRuns.{a_folder, a_sector, an_identity, some_dumps}
+use Rattle.flux_cli.proofs.AskedWords.{asked_keeps, asked_over}
+use Rattle.flux_cli.proofs.Blaming.{no-shelf, run-of-shelf, run-of-source}
+use Rattle.flux_cli.proofs.Runs.{usage-cut, usage-finish}
+use Rattle.flux_cli.specs.Blamed.{reads_dumps}
+use Rattle.flux_cli.specs.Works.{usage_work}
 use Rattle.flux_cli.proofs.program.run_words.Goals as goal
 
-pub returns-in-Some-sector_of-clause-ran : goal.returns-in-Some-sector_of-clause-ran
-returns-in-Some-sector_of-clause-ran g c = record {
-  asked = Some (a_sector (asked_sector c.in-Some-sector_of.asked));
-  asks = c.in-Some-sector_of.ensures;
-  did = (c.run.ensures.did, refl, refl);
+-- what is asked keeps to its bounds
+pub run-requires-in-Some-Streams : goal.run-requires-in-Some-Streams
+run-requires-in-Some-Streams g c = asked_keeps c.args.words.now (some_streams c.in-Some-Streams.asked) (rw c.in-Some-Streams.field-0-is at c.in-Some-Streams.ensures)
+
+pub run-requires-in-Some-Dumps : goal.run-requires-in-Some-Dumps
+run-requires-in-Some-Dumps g c = asked_keeps c.args.words.now (some_dumps (asked_dumps c.in-Some-Dumps.asked)) (rw c.in-Some-Dumps.field-0-is at c.in-Some-Dumps.ensures)
+
+pub run-requires-in-Some-Sector : goal.run-requires-in-Some-Sector
+run-requires-in-Some-Sector g c = asked_keeps c.args.words.now (a_sector (asked_sector c.in-Some-Sector.asked)) (rw c.in-Some-Sector.field-0-is at c.in-Some-Sector.ensures)
+
+-- wrong words
+usage-other : Usage ≡ ShelfFault → ⊥
+usage-other same = cc
+
+notes-other : NotesFault ≡ ShelfFault → ⊥
+notes-other same = cc
+
+pub returns-in-Ok-clause-ran : goal.returns-in-Ok-clause-ran
+returns-in-Ok-clause-ran g c = record {
+  asked = None;
+  asks = c.in-None.ensures;
+  did = (
+    record {
+      answer = tt;
+      says = usage-finish _ _ (Consumes-nil _) (wrong_text c.args.words.now) (Appends-nil _) c.in-Ok.ensures.ok;
+      counts = record { source = omega arith; image = omega arith; notes = c.in-Ok.ensures.counts.later };
+      needed = λ x told. no_reads (usage_work (wrong_text c.args.words.now)).untold _;
+    },
+    refl,
+  );
 }
 
-pub returns-in-Some-identity_of-clause-ran : goal.returns-in-Some-identity_of-clause-ran
-returns-in-Some-identity_of-clause-ran g c = record {
-  asked = Some (an_identity c.in-Some-identity_of.dump.now);
-  asks = c.in-Some-identity_of.ensures;
-  did = (c.run-in-Some-identity_of.ensures.did, refl, refl);
+pub returns-in-Err-clause-ran : goal.returns-in-Err-clause-ran
+returns-in-Err-clause-ran g c = record {
+  asked = None;
+  asks = c.in-None.ensures;
+  did = (
+    record {
+      answer = tt;
+      says = (
+        usage-cut _ _ (Consumes-nil _) (wrong_text c.args.words.now) (Keeps-refl _) c.in-Err.ensures.err,
+        c.in-Err.ensures.counts.cause,
+      );
+      counts = record { source = omega arith; image = omega arith; notes = c.in-Err.ensures.counts.later };
+      needed = λ x told. no_reads (usage_work (wrong_text c.args.words.now)).untold _;
+    },
+    refl,
+  );
 }
 
-pub returns-in-Some-dumps_of-clause-ran : goal.returns-in-Some-dumps_of-clause-ran
-returns-in-Some-dumps_of-clause-ran g c = record {
-  asked = Some (some_dumps (asked_of c.in-Some-dumps_of.asked));
-  asks = c.in-Some-dumps_of.ensures;
-  did = (c.run-in-Some-dumps_of.ensures.did, refl, refl);
-}
+pub returns-in-Ok-clause-counts : goal.returns-in-Ok-clause-counts
+returns-in-Ok-clause-counts g c = run-of-source (reads_dumps c.args.words.now) Usage usage-other (CountsBy-notes _ _ false c.in-Ok.ensures.counts)
 
-pub returns-in-Some-clause-ran : goal.returns-in-Some-clause-ran
-returns-in-Some-clause-ran g c = record {
-  asked = Some (a_folder c.in-Some.format c.in-Some.folder.now);
-  asks = c.in-Some.ensures;
-  did = (c.run-in-Some.ensures.did, refl, refl);
-}
+pub returns-in-Err-clause-counts : goal.returns-in-Err-clause-counts
+returns-in-Err-clause-counts g c = run-of-source (reads_dumps c.args.words.now) NotesFault notes-other (CountsBy-notes _ _ true c.in-Err.ensures.counts)
 
-pub returns-in-Some-sector_of-clause-counts : goal.returns-in-Some-sector_of-clause-counts
-returns-in-Some-sector_of-clause-counts g c =
-    rw (shows-dumps _ (asked_sector c.in-Some-sector_of.asked) c.in-Some-sector_of.ensures) (run-of-shelf true c.run.result c.run.ensures.no_source c.run.ensures.blames)
+pub returns-in-Some-Turns-clause-ran : goal.returns-in-Some-Turns-clause-ran
+returns-in-Some-Turns-clause-ran g c = record { asked = Some the_turns; asks = (rw c.in-Some-Turns.field-0-is at c.in-Some-Turns.ensures); did = (c.run.ensures.does, refl) }
 
-pub returns-in-Some-identity_of-clause-counts : goal.returns-in-Some-identity_of-clause-counts
-returns-in-Some-identity_of-clause-counts g c =
-    rw (identity-dumps _ c.in-Some-identity_of.dump.now c.in-Some-identity_of.ensures.0)
-    (run-of-shelf true c.run-in-Some-identity_of.result c.run-in-Some-identity_of.ensures.no_source c.run-in-Some-identity_of.ensures.blames)
+pub returns-in-Some-Turns-clause-counts : goal.returns-in-Some-Turns-clause-counts
+returns-in-Some-Turns-clause-counts g c = run-of-source (reads_dumps c.args.words.now) c.run.result (no-shelf c.run.ensures.does) c.run.ensures.blames
 
-pub returns-in-Some-dumps_of-clause-counts : goal.returns-in-Some-dumps_of-clause-counts
-returns-in-Some-dumps_of-clause-counts g c =
-    rw (reads-dumps _ (asked_of c.in-Some-dumps_of.asked) c.in-Some-dumps_of.ensures.0)
-    (run-of-shelf true c.run-in-Some-dumps_of.result c.run-in-Some-dumps_of.ensures.no_source c.run-in-Some-dumps_of.ensures.blames)
+pub returns-in-Some-Streams-clause-ran : goal.returns-in-Some-Streams-clause-ran
+returns-in-Some-Streams-clause-ran g c = record { asked = Some (some_streams c.in-Some-Streams.asked); asks = (rw c.in-Some-Streams.field-0-is at c.in-Some-Streams.ensures); did = (c.run-in-Some-Streams.ensures.does, refl) }
 
-pub returns-in-Some-clause-counts : goal.returns-in-Some-clause-counts
-returns-in-Some-clause-counts g c =
-    rw (folder-no-dump _ c.in-Some.format c.in-Some.folder.now c.in-Some.ensures.0) (run-of-shelf false c.run-in-Some.result c.run-in-Some.ensures.no_source c.run-in-Some.ensures.blames)
+pub returns-in-Some-Streams-clause-counts : goal.returns-in-Some-Streams-clause-counts
+returns-in-Some-Streams-clause-counts g c = run-of-source (reads_dumps c.args.words.now) c.run-in-Some-Streams.result (no-shelf c.run-in-Some-Streams.ensures.does) c.run-in-Some-Streams.ensures.blames
+
+pub returns-in-Some-Folder-clause-ran : goal.returns-in-Some-Folder-clause-ran
+returns-in-Some-Folder-clause-ran g c = record { asked = Some (a_folder c.in-Some-Folder.format c.in-Some-Folder.folder.now); asks = (rw c.in-Some-Folder.field-0-is at c.in-Some-Folder.ensures); did = (c.run-in-Some-Folder.ensures.did, refl, refl) }
+
+pub returns-in-Some-Folder-clause-counts : goal.returns-in-Some-Folder-clause-counts
+returns-in-Some-Folder-clause-counts g c =
+    rw (asked_over c.args.words.now (a_folder c.in-Some-Folder.format c.in-Some-Folder.folder.now) (rw c.in-Some-Folder.field-0-is at c.in-Some-Folder.ensures)) (run-of-shelf false c.run-in-Some-Folder.result c.run-in-Some-Folder.ensures.no_source c.run-in-Some-Folder.ensures.blames)
+
+pub returns-in-Some-Dumps-clause-ran : goal.returns-in-Some-Dumps-clause-ran
+returns-in-Some-Dumps-clause-ran g c = record { asked = Some (some_dumps (asked_dumps c.in-Some-Dumps.asked)); asks = (rw c.in-Some-Dumps.field-0-is at c.in-Some-Dumps.ensures); did = (c.run-in-Some-Dumps.ensures.did, refl, refl) }
+
+pub returns-in-Some-Dumps-clause-counts : goal.returns-in-Some-Dumps-clause-counts
+returns-in-Some-Dumps-clause-counts g c =
+    rw (asked_over c.args.words.now (some_dumps (asked_dumps c.in-Some-Dumps.asked)) (rw c.in-Some-Dumps.field-0-is at c.in-Some-Dumps.ensures)) (run-of-shelf true c.run-in-Some-Dumps.result c.run-in-Some-Dumps.ensures.no_source c.run-in-Some-Dumps.ensures.blames)
+
+pub returns-in-Some-Sector-clause-ran : goal.returns-in-Some-Sector-clause-ran
+returns-in-Some-Sector-clause-ran g c = record { asked = Some (a_sector (asked_sector c.in-Some-Sector.asked)); asks = (rw c.in-Some-Sector.field-0-is at c.in-Some-Sector.ensures); did = (c.run-in-Some-Sector.ensures.did, refl, refl) }
+
+pub returns-in-Some-Sector-clause-counts : goal.returns-in-Some-Sector-clause-counts
+returns-in-Some-Sector-clause-counts g c =
+    rw (asked_over c.args.words.now (a_sector (asked_sector c.in-Some-Sector.asked)) (rw c.in-Some-Sector.field-0-is at c.in-Some-Sector.ensures)) (run-of-shelf true c.run-in-Some-Sector.result c.run-in-Some-Sector.ensures.no_source c.run-in-Some-Sector.ensures.blames)
+
+pub returns-in-Some-Identify-clause-ran : goal.returns-in-Some-Identify-clause-ran
+returns-in-Some-Identify-clause-ran g c = record { asked = Some (an_identity c.in-Some-Identify.dump.now); asks = (rw c.in-Some-Identify.field-0-is at c.in-Some-Identify.ensures); did = (c.run-in-Some-Identify.ensures.did, refl, refl) }
+
+pub returns-in-Some-Identify-clause-counts : goal.returns-in-Some-Identify-clause-counts
+returns-in-Some-Identify-clause-counts g c =
+    rw (asked_over c.args.words.now (an_identity c.in-Some-Identify.dump.now) (rw c.in-Some-Identify.field-0-is at c.in-Some-Identify.ensures)) (run-of-shelf true c.run-in-Some-Identify.result c.run-in-Some-Identify.ensures.no_source c.run-in-Some-Identify.ensures.blames)
+
+pub returns-in-Some-Write-clause-ran : goal.returns-in-Some-Write-clause-ran
+returns-in-Some-Write-clause-ran g c = record { asked = Some (written_streams c.in-Some-Write.format); asks = (rw c.in-Some-Write.field-0-is at c.in-Some-Write.ensures); did = (c.run-in-Some-Write.ensures.does, refl) }
+
+pub returns-in-Some-Write-clause-counts : goal.returns-in-Some-Write-clause-counts
+returns-in-Some-Write-clause-counts g c = run-of-source (reads_dumps c.args.words.now) c.run-in-Some-Write.result (no-shelf c.run-in-Some-Write.ensures.does) c.run-in-Some-Write.ensures.blames
+
+pub returns-in-Some-Trial-clause-ran : goal.returns-in-Some-Trial-clause-ran
+returns-in-Some-Trial-clause-ran g c = record { asked = Some (a_trial c.in-Some-Trial.format c.in-Some-Trial.seed); asks = (rw c.in-Some-Trial.field-0-is at c.in-Some-Trial.ensures); did = (c.run-in-Some-Trial.ensures.does, refl) }
+
+pub returns-in-Some-Trial-clause-counts : goal.returns-in-Some-Trial-clause-counts
+returns-in-Some-Trial-clause-counts g c = run-of-source (reads_dumps c.args.words.now) c.run-in-Some-Trial.result (no-shelf c.run-in-Some-Trial.ensures.does) c.run-in-Some-Trial.ensures.blames
+
+pub returns-in-Some-ToG64-clause-ran : goal.returns-in-Some-ToG64-clause-ran
+returns-in-Some-ToG64-clause-ran g c = record { asked = Some (a_g64_file c.in-Some-ToG64.disk); asks = (rw c.in-Some-ToG64.field-0-is at c.in-Some-ToG64.ensures); did = (c.run-in-Some-ToG64.ensures.does, refl) }
+
+pub returns-in-Some-ToG64-clause-counts : goal.returns-in-Some-ToG64-clause-counts
+returns-in-Some-ToG64-clause-counts g c = run-of-source (reads_dumps c.args.words.now) c.run-in-Some-ToG64.result (no-shelf c.run-in-Some-ToG64.ensures.does) c.run-in-Some-ToG64.ensures.blames
+
+pub returns-in-Some-FromG64-clause-ran : goal.returns-in-Some-FromG64-clause-ran
+returns-in-Some-FromG64-clause-ran g c = record { asked = Some (an_image_of_g64 c.in-Some-FromG64.disk); asks = (rw c.in-Some-FromG64.field-0-is at c.in-Some-FromG64.ensures); did = (c.run-in-Some-FromG64.ensures.does, refl) }
+
+pub returns-in-Some-FromG64-clause-counts : goal.returns-in-Some-FromG64-clause-counts
+returns-in-Some-FromG64-clause-counts g c = run-of-source (reads_dumps c.args.words.now) c.run-in-Some-FromG64.result (no-shelf c.run-in-Some-FromG64.ensures.does) c.run-in-Some-FromG64.ensures.blames
+
+pub returns-in-Some-Tell-clause-ran : goal.returns-in-Some-Tell-clause-ran
+returns-in-Some-Tell-clause-ran g c = record { asked = Some (a_page c.in-Some-Tell.page); asks = (rw c.in-Some-Tell.field-0-is at c.in-Some-Tell.ensures); did = (c.run-in-Some-Tell.ensures.does, refl) }
+
+pub returns-in-Some-Tell-clause-counts : goal.returns-in-Some-Tell-clause-counts
+returns-in-Some-Tell-clause-counts g c = run-of-source (reads_dumps c.args.words.now) c.run-in-Some-Tell.result (no-shelf c.run-in-Some-Tell.ensures.does) c.run-in-Some-Tell.ensures.blames

@@ -3,7 +3,7 @@ use Rattle.flux_cli.proofs.Blaming.{memoryless}
 use Rattle.flux_cli.proofs.shelf_task.DecodeFolderShelfTask.run.Goals as goal
 
 pub returns-in-Ok-clause-did : goal.returns-in-Ok-clause-did
-returns-in-Ok-clause-did g c = inr c.decode_folder.ensures.did
+returns-in-Ok-clause-did g c = inr (rw c.bytes.ensures at c.decode_folder.ensures.did)
 
 pub returns-in-Err-clause-did : goal.returns-in-Err-clause-did
 returns-in-Err-clause-did g c = inl (refl, refl)

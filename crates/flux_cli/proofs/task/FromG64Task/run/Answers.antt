@@ -4,7 +4,8 @@ use Rattle.flux_cli.proofs.EndingLaws.{ends-blame, file-blame}
 use Rattle.flux_cli.proofs.G64Run.{file-reads}
 use Rattle.flux_cli.proofs.Runs.{out_of_memory}
 use Rattle.flux_cli.specs.Blamed.{source_blame}
-use Rattle.flux_words.specs.declared.command.Command.TheVariants.{FromG64}
+use Rattle.flux_cli.specs.G64Work.{from_g64_work}
+use Rattle.flux_words.specs.G64Disks.{format_of}
 use Rattle.flux_cli.proofs.task.FromG64Task.run.Goals as goal
 
 pub returns-in-Ok-clause-does : goal.returns-in-Ok-clause-does
@@ -16,7 +17,7 @@ returns-in-Ok-clause-does g c =
     (rw is at e.read) e.cause c.end_of_file.ensures
 
 pub returns-in-Err-clause-does : goal.returns-in-Err-clause-does
-returns-in-Err-clause-does g c = out_of_memory (FromG64 c.args.self.now.disk) tt _
+returns-in-Err-clause-does g c = out_of_memory (from_g64_work (format_of c.args.self.now.disk)) tt _
 
 pub returns-in-Ok-clause-blames : goal.returns-in-Ok-clause-blames
 returns-in-Ok-clause-blames g c = ends-blame source_blame refl refl _ c.end_of_file.result _ _ (file-blame c.from_g64-answer.result c.from_g64-answer.ensures.blames) c.end_of_file.ensures
