@@ -1,5 +1,6 @@
 -- What a disk comes to in a picture that is read of its dumps, and what drawing it may answer.
-use Rattle.std.specs.Prelude.{◌≡◌, ◌<◌, ◌≤◌, ◌⊎◌, ℕ, List, [], ◌++◌, codes, length, Option, Some, None, Result, Ok, Err}
+use Rattle.std.specs.Prelude.{◌≡◌, ◌<◌, ◌≤◌, ◌⊎◌, ℕ, List, [], ◌++◌, codes, length, Option, Some}
+use Rattle.std.specs.Prelude.{None, Result, Ok, Err}
 use Rattle.std.specs.Io.KnownBytes.{Appends}
 use Rattle.flux_base.specs.Outside.{AppendsPart}
 use Rattle.sector_images.specs.Places.{tracks}
@@ -14,10 +15,13 @@ use Rattle.flux_engine.specs.Plans.{PartOf, Seen}
 use Rattle.flux_engine.specs.Tracks.{TrackPart}
 use Rattle.dump_reading.specs.Beside.{no_lines}
 use Rattle.dump_reading.specs.Files.{ShelfNow}
-use Rattle.dump_reading.specs.Outcomes.{AreAllBy, AreTracksBy, DumpDisk, DumpsRead, FilesFailed, IsDumpsRead, IsReadBy, IsToldEmpty, LookedAsAsked, LookedBeside, numbers_of}
+use Rattle.dump_reading.specs.Outcomes.{AreAllBy, AreTracksBy, DumpDisk, DumpsRead, FilesFailed}
+use Rattle.dump_reading.specs.Outcomes.{IsDumpsRead, IsReadBy, IsToldEmpty, LookedAsAsked}
+use Rattle.dump_reading.specs.Outcomes.{LookedBeside, numbers_of}
 use Rattle.dump_reading.specs.Reports.{read_part}
 use Rattle.dump_reading.specs.declared.fault.DumpsFault.{DumpsFault}
-use Rattle.dump_reading.specs.declared.fault.DumpsFault.TheVariants.{NoFiles, ImageFault, NotesFault}
+use Rattle.dump_reading.specs.declared.fault.DumpsFault.TheVariants.{NoFiles, ImageFault}
+use Rattle.dump_reading.specs.declared.fault.DumpsFault.TheVariants.{NotesFault}
 use Rattle.dump_reading.specs.declared.totals.DumpTotals.{DumpTotals}
 use Rattle.disk_map.specs.Maps.{ShowsTrack, drawn_by}
 use Rattle.disk_map.specs.Places.{layout_of}
@@ -32,42 +36,54 @@ dumps_part = drawn_by ByCaptureAndClock
 abbrev pub dumps_front : Format → List TrackPart → List ℕ
 dumps_front format parts = top_by (codes "read") format ++ images parts
 
--- its foot: beside the legend how many streams were passed over, how many other names are told, and how many of these have data
+-- its foot: beside the legend how many streams were passed over, how many other names are told,
+-- and how many of these have data
 abbrev pub dumps_foot : Layout → DumpTotals → List ℕ
 dumps_foot layout totals =
-    counts_text layout (unread_text totals.unread totals.others totals.whole) ++ foot_text layout totals.sectors (total_text totals.sectors)
+    counts_text layout (unread_text totals.unread totals.others totals.whole)
+    ++ foot_text layout totals.sectors (total_text totals.sectors)
 
--- The picture stands in the place of the image, and there are no notes: of the files beside the format's tracks it has the numbers alone.
+-- The picture stands in the place of the image, and there are no notes: of the files beside the
+-- format's tracks it has the numbers alone.
 abbrev pub picture_of : Format → List TrackPart → (beside : List ℕ) → DumpTotals → DumpsRead
-picture_of format parts beside totals = record { image = dumps_front format parts ++ dumps_foot (layout_of format) totals; notes = []; totals = totals }
+picture_of format parts beside totals =
+    record { image = dumps_front format parts ++ dumps_foot (layout_of format) totals; notes = []; totals = totals }
 
 -- what the dumps come to in a picture, by the files that are told
 abbrev pub IsDumpsDrawn : DumpDisk → Option (List File) → DumpsRead → Type 0
 IsDumpsDrawn disk told o = IsReadBy dumps_part no_lines (picture_of disk.format) disk told o
 
 -- all of it was written
-pub record DrewDumps (disk : DumpDisk) (start now : ShelfNow) (picture picture' : Option (List ℕ)) (totals : DumpTotals) : Type 0 where
+pub record DrewDumps (disk : DumpDisk) (start now : ShelfNow) (picture picture' : Option (List ℕ))
+    (totals : DumpTotals) : Type 0 where
   pub outcome : DumpsRead
   pub is : IsDumpsDrawn disk start.told.files outcome
   pub shelf : FilesFailed disk start now is.streams is.beside.came
   pub grew : Appends picture picture' outcome.image
   pub totals_are : totals ≡ outcome.totals
 
--- behind all tracks of the format stands the foot, which counts what came of the files beside them too
-pub record HasFoot (disk : DumpDisk) (told : Option (List File)) (streams : List Seen) (parts : List TrackPart) (came : List Seen) (ending : List ℕ) : Type 0 where
+-- behind all tracks of the format stands the foot, which counts what
+-- came of the files beside them too
+pub record HasFoot (disk : DumpDisk) (told : Option (List File)) (streams : List Seen)
+    (parts : List TrackPart) (came : List Seen) (ending : List ℕ) : Type 0 where
   pub others : List (List NotedOther)
   pub all : AreAllBy dumps_part disk told streams parts others
   pub beside : LookedBeside disk told
   pub looked : LookedAsAsked (totals_over parts) beside
   pub came_is : came ≡ beside.came
-  pub is : ending ≡ dumps_foot (layout_of disk.format) (numbers_of streams parts others came beside.others)
+  pub is : ending
+      ≡ dumps_foot (layout_of disk.format) (numbers_of streams parts others came beside.others)
 
--- what stands in a picture after some of its tracks: nothing yet, and nothing came beside them; or the foot where these are all
-abbrev pub IsDumpsEnding : DumpDisk → Option (List File) → List Seen → List TrackPart → List Seen → List ℕ → Type 0
-IsDumpsEnding disk told streams parts came ending = ((ending ≡ []) × (came ≡ [])) ⊎ HasFoot disk told streams parts came ending
+-- what stands in a picture after some of its tracks: nothing yet, and nothing came beside them;
+-- or the foot where these are all
+abbrev pub IsDumpsEnding : DumpDisk → Option (List File) → List Seen → List TrackPart → List Seen
+    → List ℕ → Type 0
+IsDumpsEnding disk told streams parts came ending =
+    ((ending ≡ []) × (came ≡ [])) ⊎ HasFoot disk told streams parts came ending
 
 -- The sink failed: a part of a picture of the first tracks was written, which is shorter than it.
-pub record StoppedInDumps (disk : DumpDisk) (start now : ShelfNow) (picture picture' : Option (List ℕ)) : Type 0 where
+pub record StoppedInDumps (disk : DumpDisk) (start now : ShelfNow)
+    (picture picture' : Option (List ℕ)) : Type 0 where
   pub streams : List Seen
   pub parts : List TrackPart
   pub few : length parts ≤ length (tracks disk.format)
@@ -78,17 +94,23 @@ pub record StoppedInDumps (disk : DumpDisk) (start now : ShelfNow) (picture pict
   pub shelf : FilesFailed disk start now streams beside
   pub grew : AppendsPart picture picture' (dumps_front disk.format parts ++ ending)
 
--- What an answer says. A dump without files is told before anything is read or written; a file that fails ends nothing.
-abbrev pub SaysOfDrawing : DumpDisk → (start now : ShelfNow) → (picture picture' : Option (List ℕ)) → Result DumpTotals DumpsFault → Type 0
-SaysOfDrawing disk start now picture picture' (Ok totals) = IsToldEmpty disk start.told.files None × DrewDumps disk start now picture picture' totals
+-- What an answer says. A dump without files is told before anything is read or written; a
+-- file that fails ends nothing.
+abbrev pub SaysOfDrawing : DumpDisk → (start now : ShelfNow) → (picture picture' : Option (List ℕ))
+    → Result DumpTotals DumpsFault → Type 0
+SaysOfDrawing disk start now picture picture' (Ok totals) =
+    IsToldEmpty disk start.told.files None × DrewDumps disk start now picture picture' totals
 SaysOfDrawing disk start now picture picture' (Err (NoFiles dump)) =
-    (dump < length disk.dumps) × IsToldEmpty disk start.told.files (Some dump) × (now ≡ start) × (picture' ≡ picture)
-SaysOfDrawing disk start now picture picture' (Err ImageFault) = StoppedInDumps disk start now picture picture'
+    (dump < length disk.dumps) × IsToldEmpty disk start.told.files (Some dump) × (now ≡ start)
+    × (picture' ≡ picture)
+SaysOfDrawing disk start now picture picture' (Err ImageFault) =
+    StoppedInDumps disk start now picture picture'
 SaysOfDrawing disk start now picture picture' (Err NotesFault) = ⊥
 
--- A picture is that of a report: the report of the same streams has the same numbers, and of each track the picture has the fields by what was
--- gathered of it, of which the report has the lines.
-pub record ShowsReport (disk : DumpDisk) (told : Option (List File)) (o : DumpsRead) (is : IsDumpsDrawn disk told o) : Type 0 where
+-- A picture is that of a report: the report of the same streams has the same numbers, and of each
+-- track the picture has the fields by what was gathered of it, of which the report has the lines.
+pub record ShowsReport (disk : DumpDisk) (told : Option (List File)) (o : DumpsRead)
+    (is : IsDumpsDrawn disk told o) : Type 0 where
   pub report : DumpsRead
   pub read : IsDumpsRead disk told report
   pub streams : read.streams ≡ is.streams
@@ -98,4 +120,6 @@ pub record ShowsReport (disk : DumpDisk) (told : Option (List File)) (o : DumpsR
       → ShowsTrack dumps_part read_part disk.format n (part_at is.parts n) (part_at read.parts n)
 
 abbrev pub PicturesOfDumpsShowReports : Type 0
-PicturesOfDumpsShowReports = (disk : DumpDisk) (told : Option (List File)) (o : DumpsRead) (is : IsDumpsDrawn disk told o) → ShowsReport disk told o is
+PicturesOfDumpsShowReports =
+    (disk : DumpDisk) (told : Option (List File)) (o : DumpsRead) (is : IsDumpsDrawn disk told o)
+    → ShowsReport disk told o is

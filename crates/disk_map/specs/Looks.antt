@@ -1,7 +1,10 @@
 -- How each verdict looks.
 use Rattle.std.specs.Prelude.{ℕ, List, codes}
 use Rattle.turn_merge.specs.declared.verdict.Verdict.{Verdict}
-use Rattle.turn_merge.specs.declared.verdict.Verdict.TheVariants.{Good as GoodSector, Contradictory as ContradictorySector, Bad as BadSector, Missing as MissingSector}
+use Rattle.turn_merge.specs.declared.verdict.Verdict.TheVariants.{Good as GoodSector}
+use Rattle.turn_merge.specs.declared.verdict.Verdict.TheVariants.{Contradictory as ContradictorySector}
+use Rattle.turn_merge.specs.declared.verdict.Verdict.TheVariants.{Bad as BadSector}
+use Rattle.turn_merge.specs.declared.verdict.Verdict.TheVariants.{Missing as MissingSector}
 use Rattle.disk_map.specs.declared.kind.Kind.{Kind}
 use Rattle.disk_map.specs.declared.kind.Kind.TheVariants.{Good, Contradictory, Bad, Missing}
 
@@ -26,7 +29,8 @@ colour_of Contradictory = codes "#40004b"
 colour_of Bad = codes "#d6301d"
 colour_of Missing = codes "#8c8c8c"
 
--- the shape, in the path steps of SVG from its upper left corner on, ten units wide and high: a square, an hourglass, a cross, a frame
+-- the shape, in the path steps of SVG from its upper left corner on, ten units wide and high: a
+-- square, an hourglass, a cross, a frame
 abbrev pub shape_of : Kind → List ℕ
 shape_of Good = codes "h10v10h-10z"
 shape_of Contradictory = codes "l10 0l-10 10h10z"

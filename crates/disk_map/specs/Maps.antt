@@ -16,11 +16,13 @@ use Rattle.disk_map.specs.Texts.{field_by, foot_text, top_text}
 
 -- the field of a sector, by the readings of its track
 abbrev pub field_of : Naming → Format → TrackId → List NotedReading → (sector : ℕ) → List ℕ
-field_of naming format track readings sector = field_by naming (layout_of format) track sector (verdict readings sector)
+field_of naming format track readings sector =
+    field_by naming (layout_of format) track sector (verdict readings sector)
 
 -- the fields of a track, one for each sector, in the order of their numbers
 unfoldable pub fields_by : Naming → Format → TrackId → List NotedReading → List ℕ
-fields_by naming format track readings = flat_map (field_of naming format track readings) (numbers (sectors_of format track))
+fields_by naming format track readings =
+    flat_map (field_of naming format track readings) (numbers (sectors_of format track))
 
 -- what becomes of a track in a picture: its fields, and no notes
 abbrev pub drawn_by : Naming → Format → TrackId → TrackNotes → TrackPart
@@ -31,12 +33,14 @@ drawn_by naming format track notes = record {
 }
 
 -- a track in a picture and in a report, by what was gathered of it
-pub record ShowsTrack (drawn_of read_of : PartOf) (format : Format) (n : ℕ) (drawn read : TrackPart) : Type 0 where
+pub record ShowsTrack (drawn_of read_of : PartOf) (format : Format) (n : ℕ)
+    (drawn read : TrackPart) : Type 0 where
   pub notes : TrackNotes
   pub drawn_is : drawn ≡ drawn_of format (track_at format n) notes
   pub read_is : read ≡ read_of format (track_at format n) notes
 
--- what the streams of an input come to: of each track its fields, in the place of its part of the image
+-- what the streams of an input come to: of each track its fields, in the
+-- place of its part of the image
 abbrev pub IsDrawn : Plan → Format → (x : List ℕ) → Planned → Type 0
 IsDrawn plan format x d = IsPlanned plan (drawn_by plan.naming) format (streams_in plan x) d
 

@@ -6,7 +6,8 @@ use Rattle.sector_images.specs.Places.{tracks}
 use Rattle.sector_images.specs.declared.format.Format.{Format}
 use Rattle.disk_map.specs.declared.layout.Layout.{Layout}
 
--- the last track has the last cylinder and the last head, and no track has more sectors than the first
+-- the last track has the last cylinder and the last head, and no track
+-- has more sectors than the first
 abbrev pub layout_of : Format → Layout
 layout_of format = record {
   last = track_at format (length (tracks format) - 1);
@@ -21,8 +22,9 @@ across layout = 12 * (layout.last.cylinder + 1)
 abbrev pub down : Layout → ℕ
 down layout = 12 * layout.rows
 
--- how wide the row of cylinders' numbers is: a number of two digits, which stands in the middle of its cylinder's field, begins up to half
--- a unit before the field, so the row ends a unit before the field behind the last one
+-- how wide the row of cylinders' numbers is: a number of two digits, which stands in the middle of
+-- its cylinder's field, begins up to half a unit before the field, so the row ends a unit before
+-- the field behind the last one
 abbrev pub numbers_across : Layout → ℕ
 numbers_across layout = 12 * layout.last.cylinder + 11
 

@@ -10,12 +10,18 @@ use Rattle.sector_report.specs.declared.totals.Totals.{Totals}
 use Rattle.disk_map.specs.Places.{layout_of}
 use Rattle.disk_map.specs.Texts.{foot_text}
 
--- the foot of a refused disk was written, with these totals of the tracks before; after another fault nothing
-abbrev pub EndsEarly : {P : Type 0} → Format → Totals → (before after : Moment P) → (fault answer : PlanFault) → Type 0
-EndsEarly format totals before after (Refused track capture block fault) (Refused track' capture' block' fault') =
+-- the foot of a refused disk was written, with these totals of the tracks
+-- before; after another fault nothing
+abbrev pub EndsEarly : {P : Type 0} → Format → Totals → (before after : Moment P)
+    → (fault answer : PlanFault) → Type 0
+EndsEarly format totals before after (Refused track capture block fault)
+    (Refused track' capture' block' fault') =
     (Refused track capture block fault ≡ Refused track' capture' block' fault')
-    × Puts {T = Unit {0}} before after (foot_text (layout_of format) totals (refused_text track block fault)) (Ok tt)
+    × Puts {T = Unit {0}} before after
+    (foot_text (layout_of format) totals (refused_text track block fault)) (Ok tt)
 EndsEarly format totals before after (Refused track capture block fault) ImageFault =
-    (failed : Failed) × Puts {T = Unit {0}} before after (foot_text (layout_of format) totals (refused_text track block fault)) (Err failed)
+    (failed : Failed)
+    × Puts {T = Unit {0}} before after
+    (foot_text (layout_of format) totals (refused_text track block fault)) (Err failed)
 EndsEarly format totals before after (Refused track capture block fault) answer = ⊥
 EndsEarly format totals before after fault answer = (answer ≡ fault) × (after ≡ before)

@@ -24,11 +24,12 @@ use flux_engine::{DiskRoom, Plan, PlanFault, decode_planned_tracks, no_totals, r
 use sector_images::Format;
 use sector_report::{Totals, refused_line, total_line};
 
-/// Draws a disk: reads the streams of its tracks in order by a plan, and writes the picture of what they come to, the fields of each track as soon as it is read. No answer is for want of memory.
+/// Draws a disk: reads the streams of its tracks in order by a plan, and writes the picture of what they come to, the
+/// fields of each track as soon as it is read. No answer is for want of memory.
 ///
-/// What stands after the last stream is not looked at. After `ReadFault`, and after `ImageFault`, where the picture was not
-/// written, nothing more is read or written. Where a stream is refused, the picture of the tracks before it is brought to its
-/// end, and says why. No notes are written, so `NotesFault` does not come.
+/// What stands after the last stream is not looked at. After `ReadFault`, and after `ImageFault`, where the picture was
+/// not written, nothing more is read or written. Where a stream is refused, the picture of the tracks before it is
+/// brought to its end, and says why. No notes are written, so `NotesFault` does not come.
 pub fn map_disk<S: Source, P: Sink>(
     plan: Plan,
     room: &mut DiskRoom,
@@ -38,18 +39,24 @@ pub fn map_disk<S: Source, P: Sink>(
     requires fresh { room.old ≡ fresh room.old.format }
     requires some { 1 ≤ plan.captures }
     requires few { plan.captures ≤ 16 }
-    ensures mapped { MapsDisk plan room.old.format (S.left source.old) (S.left source.new) (P.written picture.old) (P.written picture.new) result }
-    ensures told { (bytes : List ℕ) → S.left source.old ≡ Some bytes → SaysOfMapInput plan room.old.format bytes (S.left source.new) (P.written picture.old) (P.written picture.new) result }
+    ensures mapped { MapsDisk plan room.old.format (S.left source.old) (S.left source.new) (P.written picture.old)
+        (P.written picture.new) result }
+    ensures told { (bytes : List ℕ) → S.left source.old ≡ Some bytes
+        → SaysOfMapInput plan room.old.format bytes (S.left source.new) (P.written picture.old) (P.written picture.new)
+        result }
 
     // A source that tells its bytes is read only where those that it gave before end inside a stream.
-    ensures needed { (bytes : List ℕ) → S.left source.old ≡ Some bytes → ReadsWhereOpen (EndsInPlan plan room.old.format) (reads_at S.Source source.old) (reads_at S.Source source.new) }
+    ensures needed { (bytes : List ℕ) → S.left source.old ≡ Some bytes
+        → ReadsWhereOpen (EndsInPlan plan room.old.format) (reads_at S.Source source.old)
+        (reads_at S.Source source.new) }
 
     ensures blames { CountsBy (plan_blame result)
         (three_counts (source_counts S.Source source.old) (sink_counts P.Sink picture.old) no_counts)
         (three_counts (source_counts S.Source source.new) (sink_counts P.Sink picture.new) no_counts) }
 
     // Over a source and a sink that do not fail there is no other answer.
-    ensures complete { Stayed (S.faults source.old) (S.faults source.new) → Stayed (P.faults picture.old) (P.faults picture.new) → IsFinished result }
+    ensures complete { Stayed (S.faults source.old) (S.faults source.new)
+        → Stayed (P.faults picture.old) (P.faults picture.new) → IsFinished result }
 {
     let format = room_format(room);
     match write_top("map", format, picture) {
@@ -136,7 +143,8 @@ fn write_grids<P: Sink>(layout: Layout, picture: &mut P) -> Result<(), Failed>
 
 /// Writes the empty grid of each head.
 fn write_each_grid<P: Sink>(layout: Layout, picture: &mut P) -> Result<(), Failed>
-    ensures { Puts (sink_at P.Sink picture.old) (sink_at P.Sink picture.new) (flat_map (grid_text layout) (range_with_len 0 (layout.last.head + 1))) result }
+    ensures { Puts (sink_at P.Sink picture.old) (sink_at P.Sink picture.new)
+        (flat_map (grid_text layout) (range_with_len 0 (layout.last.head + 1))) result }
 {
     for head in 0..u32::from(layout.last.head) + 1 {
         match write_text(picture, &grid_text(layout, head)) {

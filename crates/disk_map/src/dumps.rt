@@ -21,12 +21,14 @@ use flux_engine::{Clocks, DiskRoom, room_format};
 use sector_report::{Naming, total_line, unread_line};
 use track_shelf::Shelf;
 
-/// Draws a disk that is read of its dumps, as `read_dumps` reads it: the picture of the verdicts that its report has, with the lines of this
-/// report as the titles of the fields. The foot counts the streams that were passed over and the names of other headers, also those of the files
-/// of other tracks, which have no field. The fields of each track are written as soon as it is read. No answer is for want of memory.
+/// Draws a disk that is read of its dumps, as `read_dumps` reads it: the picture of the verdicts that its report has,
+/// with the lines of this report as the titles of the fields. The foot counts the streams that were passed over and the
+/// names of other headers, also those of the files of other tracks, which have no field. The fields of each track are
+/// written as soon as it is read. No answer is for want of memory.
 ///
-/// A dump that has the file of none of the tracks is refused before anything is written. A file that fails is passed over, and counted. After a
-/// fault of the sink nothing more is read or written. No notes are written, so `NotesFault` does not come.
+/// A dump that has the file of none of the tracks is refused before anything is written. A file that fails is
+/// passed over, and counted. After a fault of the sink nothing more is read or written. No notes are written,
+/// so `NotesFault` does not come.
 pub fn map_dumps<H: Shelf, P: Sink>(
     dumps: &Dumps,
     room: &mut DiskRoom,
@@ -35,7 +37,8 @@ pub fn map_dumps<H: Shelf, P: Sink>(
 ) -> Result<DumpTotals, DumpsFault>
     requires fresh { room.old ≡ fresh room.old.format }
     requires few { length dumps.now.names.now ≤ 16 }
-    ensures says { SaysOfDrawing (disk_of dumps.now room.old.format) (shelf_at H.Source H.Shelf.own shelf.old) (shelf_at H.Source H.Shelf.own shelf.new) (P.written picture.old) (P.written picture.new) result }
+    ensures says { SaysOfDrawing (disk_of dumps.now room.old.format) (shelf_at H.Source H.Shelf.own shelf.old)
+        (shelf_at H.Source H.Shelf.own shelf.new) (P.written picture.old) (P.written picture.new) result }
 
     // What the shelf did is in what came of it.
     ensures blames { CountsBy (dumps_blame result)

@@ -47,7 +47,8 @@ impl TrackWriter for FieldWriter {
     }
 }
 
-/// Writes the fields of a track, one for each sector, by the sectors' numbers, each in one piece, and gives the track's totals.
+/// Writes the fields of a track, one for each sector, by the sectors' numbers, each in one piece,
+/// and gives the track's totals.
 fn write_fields<P: Sink>(
     naming: Naming,
     format: Format,
@@ -57,10 +58,17 @@ fn write_fields<P: Sink>(
 ) -> Result<Totals, Failed>
     requires track { IsTrack format track }
     requires knows { Knows (sectors_in format track) book.now }
-    ensures ok { OnOk result ((readings : List NotedReading) → StandsFor book.now readings → Appends (P.written picture.old) (P.written picture.new) (fields_by naming format track readings)) }
+    ensures ok { OnOk result
+        ((readings : List NotedReading) → StandsFor book.now readings
+        → Appends (P.written picture.old) (P.written picture.new) (fields_by naming format track readings)) }
     ensures counted { IfOk result (λ totals. IsSum totals × (totals.sectors ≤ 100)) }
-    ensures totals { IfOk result (λ totals. (readings : List NotedReading) → StandsFor book.now readings → totals ≡ totals_of (map (verdict_over readings) (numbers (sectors_in format track)))) }
-    ensures err { OnErr result ((readings : List NotedReading) → StandsFor book.now readings → AppendsPart (P.written picture.old) (P.written picture.new) (fields_by naming format track readings)) }
+    ensures totals { IfOk result
+        (λ totals.
+        (readings : List NotedReading) → StandsFor book.now readings
+        → totals ≡ totals_of (map (verdict_over readings) (numbers (sectors_in format track)))) }
+    ensures err { OnErr result
+        ((readings : List NotedReading) → StandsFor book.now readings
+        → AppendsPart (P.written picture.old) (P.written picture.new) (fields_by naming format track readings)) }
     ensures counts { Counts (is_err result) (sink_counts P.Sink picture.old) (sink_counts P.Sink picture.new) }
 {
     tracks_keep_bounds();

@@ -1,7 +1,9 @@
-//! Where the parts of a picture lie. All lengths are in the picture's own units, of which a field has 12 across and 12 down.
+//! Where the parts of a picture lie. All lengths are in the picture's own units, of which a
+//! field has 12 across and 12 down.
 
 ghost use Rattle.std.specs.Prelude.{◌≡◌, ◌≤◌};
-ghost use Rattle.disk_map.specs.Places.{across, down, field_top, foot_top, height_of, layout_of, left_of, numbers_across, top_of, width_of};
+ghost use Rattle.disk_map.specs.Places.{across, down, field_top, foot_top, height_of, layout_of, left_of};
+ghost use Rattle.disk_map.specs.Places.{numbers_across, top_of, width_of};
 
 use flux_base::TrackId;
 use flux_engine::sectors_of;
@@ -47,8 +49,8 @@ impl Layout {
         12 * u32::from(self.rows)
     }
 
-    /// How wide the row of cylinders' numbers above a grid is: a unit less than the grid, since the number of the cylinder
-    /// behind the last one would begin there.
+    /// How wide the row of cylinders' numbers above a grid is: a unit less than the grid, since the number of the
+    /// cylinder behind the last one would begin there.
     pub(crate) fn numbers_across(self) -> u32
         ensures { result ≡ numbers_across self }
     {

@@ -1,8 +1,9 @@
-//! A picture of a disk, as SVG: a grid for each head, cylinders across and sectors down, and in it a field for each sector, whose
-//! colour and shape are its verdict and whose title is its line of the report.
+//! A picture of a disk, as SVG: a grid for each head, cylinders across and sectors down, and in it a field for each
+//! sector, whose colour and shape are its verdict and whose title is its line of the report.
 //!
-//! A disk is read by the engine's loop (`flux_engine`), by the plan of its report, and the fields of a track are written as soon as
-//! it is read. What is written depends on the format and on the verdicts alone. Dumps of a disk are read as `dump_reading` reads them.
+//! A disk is read by the engine's loop (`flux_engine`), by the plan of its report, and the fields of a track are
+//! written as soon as it is read. What is written depends on the format and on the verdicts alone. Dumps of a disk are
+//! read as `dump_reading` reads them.
 #![tactic(auto)]
 
 mod disk;

@@ -2,7 +2,9 @@
 
 ghost use Rattle.std.specs.Prelude.{◌≡◌, ◌+◌, ◌≤◌, ◌<◌, ◌++◌, length};
 ghost use Rattle.arrayvec.specs.ArrayString.{array_string_len};
-ghost use Rattle.disk_map.specs.Texts.{begin_text, count_of, counts_text, ending_text, field_by, field_text, foot_text, grid_text, heading_text, labels_text, legend_row, legend_text, mark_text, row_labels_text, ground_text};
+ghost use Rattle.disk_map.specs.Texts.{begin_text, count_of, counts_text, ending_text, field_by, field_text, foot_text};
+ghost use Rattle.disk_map.specs.Texts.{grid_text, heading_text, labels_text, legend_row, legend_text, mark_text};
+ghost use Rattle.disk_map.specs.Texts.{row_labels_text, ground_text};
 
 use crate::kind::{Kind, colour_of, kind_of, name_of, shape_of};
 use crate::layout::Layout;
@@ -12,8 +14,8 @@ use sector_images::Format;
 use sector_report::{Line, Naming, Totals, named_line};
 use turn_merge::Verdict;
 
-/// The numbers at the sides of a grid, of which each grid shows those that it has: every fifth cylinder, and the sectors of
-/// all formats that have a name, and up to 32.
+/// The numbers at the sides of a grid, of which each grid shows those that it has: every fifth cylinder, and the
+/// sectors of all formats that have a name, and up to 32.
 const LABELS: &str = "\
 <defs><g id=\"columns\" text-anchor=\"middle\">
 <text x=\"5\" y=\"9\">0</text><text x=\"65\" y=\"9\">5</text><text x=\"125\" y=\"9\">10</text><text x=\"185\" y=\"9\">15</text>
@@ -129,7 +131,8 @@ fn append_row_labels(text: &mut Text, layout: Layout)
     append(text, "\"><use href=\"#rows\"/></svg></g>\n");
 }
 
-/// The field of a sector: colour and shape of its verdict, and as its title its line of the report. The cylinder is below 100.
+/// The field of a sector: colour and shape of its verdict, and as its title its line of the
+/// report. The cylinder is below 100.
 pub fn field_text(layout: Layout, track: TrackId, sector: u8, verdict: &Verdict) -> Text
     requires { track.cylinder < 100 }
     ensures { result.bytes ≡ field_text layout track sector verdict.now }
@@ -184,8 +187,8 @@ fn append_line(text: &mut Text, line: &Line)
     append(text, line.as_str());
 }
 
-/// The foot of a picture: the legend, with how many sectors each verdict has, and the last line, which is the report's total
-/// line or says why the disk is refused.
+/// The foot of a picture: the legend, with how many sectors each verdict has, and the last line, which is the report's
+/// total line or says why the disk is refused.
 pub fn foot_text(layout: Layout, totals: &Totals, last: &Line) -> Text
     ensures { result.bytes ≡ foot_text layout totals.now last.now.bytes }
 {

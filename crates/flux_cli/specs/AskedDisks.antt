@@ -1,4 +1,5 @@
--- What words ask, as the commands take it: what it keeps to; and of dumps each disk is read by both clocks, and all files of its dumps are looked at.
+-- What words ask, as the commands take it: what it keeps to; and of dumps each disk is read by both
+-- clocks, and all files of its dumps are looked at.
 use Rattle.std.specs.Prelude.{◌<◌, length}
 use Rattle.flux_engine.specs.Recordings.{track_at}
 use Rattle.dump_reading.specs.Outcomes.{DumpDisk}
@@ -15,7 +16,8 @@ use Rattle.sector_copies.specs.Shown.{SectorAsked}
 
 -- the disk that is to be read
 abbrev pub asked_disk : AskedDumps → DumpDisk
-asked_disk asked = record { stepping = stepping_of asked.options; dumps = asked.dumps; format = asked.format; clocks = Both; looks = Always }
+asked_disk asked =
+    record { stepping = stepping_of asked.options; dumps = asked.dumps; format = asked.format; clocks = Both; looks = Always }
 
 -- and the sector that is to be shown of one
 abbrev pub shown_sector : AskedSector → SectorAsked

@@ -1,10 +1,12 @@
 -- Whom a status blames: of which object of the outside it tells a fault.
 use Rattle.std.specs.Prelude.{◌≡◌, ◌<◌, ℕ, Bool, true, false, List, [], ◌∷◌, Option, Some}
 use Rattle.dump_reading.specs.Files.{CountsMany}
-use Rattle.flux_base.specs.Blames.{Blame, OutsideCounts, is_image, is_notes, is_source, no_one, the_source, the_image, the_notes}
+use Rattle.flux_base.specs.Blames.{Blame, OutsideCounts, is_image, is_notes, is_source, no_one}
+use Rattle.flux_base.specs.Blames.{the_source, the_image, the_notes}
 use Rattle.flux_base.specs.Counts.{Counts, FaultCounts}
 use Rattle.flux_base.specs.declared.status.Status.{Status}
-use Rattle.flux_base.specs.declared.status.Status.TheVariants.{ReadFault, ImageFault, NotesFault, ShelfFault}
+use Rattle.flux_base.specs.declared.status.Status.TheVariants.{ReadFault, ImageFault, NotesFault}
+use Rattle.flux_base.specs.declared.status.Status.TheVariants.{ShelfFault}
 use Rattle.flux_help.specs.Verbs.{verb_of}
 use Rattle.flux_help.specs.declared.verb.Verb.{Verb}
 use Rattle.flux_help.specs.declared.verb.Verb.TheVariants.{Identify, Read, Show}
@@ -41,21 +43,25 @@ abbrev pub reads_dumps : (words : List (List ℕ)) → Bool
 reads_dumps [] = false
 reads_dumps (first ∷ others) = verb_over_dumps (verb_of first)
 
--- how often files failed under such words, by the status: where it tells so, or a fault of a sink, and else never
+-- how often files failed under such words, by the status: where it tells so, or a
+-- fault of a sink, and else never
 abbrev pub FailsOften : Status → (often : ℕ) → Type 0
 FailsOften ShelfFault often = 0 < often
 FailsOften ImageFault often = Unit {0}
 FailsOften NotesFault often = Unit {0}
 FailsOften _ often = often ≡ 0
 
--- The shelf failed once where its fault is told, in the last call of all that could, and else never. Under words that read dumps files that fail are
--- passed over: it failed as often as they did.
+-- The shelf failed once where its fault is told, in the last call of all that
+-- could, and else never. Under words that read dumps files that fail are passed
+-- over: it failed as often as they did.
 abbrev pub CountsOfShelf : (dumps : Bool) → Status → (before after : FaultCounts) → Type 0
 CountsOfShelf false status before after = Counts (is_source (shelf_blame status)) before after
-CountsOfShelf true status before after = (often : ℕ) × FailsOften status often × CountsMany often before after
+CountsOfShelf true status before after =
+    (often : ℕ) × FailsOften status often × CountsMany often before after
 
 -- over the shelf, which stands in the source's place
-pub record CountsOnShelf (dumps : Bool) (status : Status) (before after : OutsideCounts) : Type 0 where
+pub record CountsOnShelf (dumps : Bool) (status : Status)
+    (before after : OutsideCounts) : Type 0 where
   pub shelf : CountsOfShelf dumps status before.source after.source
   pub image : Counts (is_image (shelf_blame status)) before.image after.image
   pub notes : Counts (is_notes (shelf_blame status)) before.notes after.notes
@@ -68,20 +74,25 @@ pub record AllCounts : Type 0 where
   pub notes : FaultCounts
 
 abbrev pub all_counts : (source shelf image notes : FaultCounts) → AllCounts
-all_counts source shelf image notes = record { source = source; shelf = shelf; image = image; notes = notes }
+all_counts source shelf image notes =
+    record { source = source; shelf = shelf; image = image; notes = notes }
 
 abbrev pub world_counts : {S W N H : Type 0} → World S W N H → AllCounts
-world_counts now = all_counts now.outside.source.counts now.shelf.source.counts now.outside.image.counts now.outside.notes.counts
+world_counts now = all_counts now.outside.source.counts now.shelf.source.counts
+    now.outside.image.counts now.outside.notes.counts
 
--- The notes behind a fault of the output that is told: they failed in its line, or never. Else as the status says.
+-- The notes behind a fault of the output that is told: they failed in its line, or
+-- never. Else as the status says.
 abbrev pub CountsOfNotes : (told fails : Bool) → (before after : FaultCounts) → Type 0
 CountsOfNotes false fails before after = Counts fails before after
 CountsOfNotes true fails before after = (cut : Bool) × Counts cut before after
 
--- A run failed for the sake of the object whose fault its status tells, which failed once, in the last call that could, and no other one did: so after
--- a fault nothing more was called that could fail, and a run that finished had none. Where a fault of the output is told, the notes were called behind
--- it, for one line alone, and may have failed once too.
-pub record CountsOfRun (dumps told : Bool) (status : Status) (before after : AllCounts) : Type 0 where
+-- A run failed for the sake of the object whose fault its status tells, which failed once, in the
+-- last call that could, and no other one did: so after a fault nothing more was called that could
+-- fail, and a run that finished had none. Where a fault of the output is told, the notes were
+-- called behind it, for one line alone, and may have failed once too.
+pub record CountsOfRun (dumps told : Bool) (status : Status)
+    (before after : AllCounts) : Type 0 where
   pub source : Counts (is_source (source_blame status)) before.source after.source
   pub shelf : CountsOfShelf dumps status before.shelf after.shelf
   pub image : Counts (is_image (source_blame status)) before.image after.image

@@ -1,4 +1,5 @@
--- What a run of `decode-folder` does: all that is promised of `decode`, where the files of a folder are its streams.
+-- What a run of `decode-folder` does: all that is promised of `decode`, where the
+-- files of a folder are its streams.
 use Rattle.std.specs.Prelude.{◌≡◌, ℕ, List, Some, None}
 use Rattle.flux_base.specs.Outside.{Rose}
 use Rattle.flux_base.specs.declared.status.Status.{Status}
@@ -13,8 +14,10 @@ use Rattle.flux_cli.specs.Work.{Outcome}
 use Rattle.flux_cli.specs.World.{OnShelf, as_source}
 use Rattle.flux_words.specs.declared.commands.Output.TheVariants.{ImageAndReport}
 
--- The words ask to decode a folder, all of whose wanted files are there; the shelf tells them, and joined they are this input.
-pub record DecodesFolder {H W N : Type 0} (words : List (List ℕ)) (before : OnShelf H W N) (format : Format) (x : List ℕ) : Type 0 where
+-- The words ask to decode a folder, all of whose wanted files are there; the shelf tells them,
+-- and joined they are this input.
+pub record DecodesFolder {H W N : Type 0} (words : List (List ℕ)) (before : OnShelf H W N)
+    (format : Format) (x : List ℕ) : Type 0 where
   pub folder : List ℕ
   pub words_are : AreWordsOf (a_folder format folder) words
   pub files : List File
@@ -23,13 +26,18 @@ pub record DecodesFolder {H W N : Type 0} (words : List (List ℕ)) (before : On
   pub input : joined files folder format ≡ x
 
 -- what a run over the shelf gave, whose faults are those of the shelf
-abbrev pub GaveOrCutOnShelf : {H W N : Type 0} → (Holds : Outcome → Type 0) → Status → (before after : OnShelf H W N) → Type 0
+abbrev pub GaveOrCutOnShelf : {H W N : Type 0} → (Holds : Outcome → Type 0) → Status
+    → (before after : OnShelf H W N) → Type 0
 GaveOrCutOnShelf Holds ReadFault before after = ⊥
-GaveOrCutOnShelf Holds ShelfFault before after = Rose before.shelf.source.counts.faults after.shelf.source.counts.faults
+GaveOrCutOnShelf Holds ShelfFault before after =
+    Rose before.shelf.source.counts.faults after.shelf.source.counts.faults
 GaveOrCutOnShelf Holds Memory before after = after ≡ before
-GaveOrCutOnShelf Holds status before after = GaveOrCut Holds status (as_source before) (as_source after)
+GaveOrCutOnShelf Holds status before after =
+    GaveOrCut Holds status (as_source before) (as_source after)
 
 -- whatever the files are
-abbrev pub FolderAsExpected : {H W N : Type 0} → (words : List (List ℕ)) → Status → (before after : OnShelf H W N) → Type 0
-FolderAsExpected words status before after = (format : Format) (x : List ℕ) → DecodesFolder words before format x
+abbrev pub FolderAsExpected : {H W N : Type 0} → (words : List (List ℕ)) → Status
+    → (before after : OnShelf H W N) → Type 0
+FolderAsExpected words status before after =
+    (format : Format) (x : List ℕ) → DecodesFolder words before format x
     → GaveOrCutOnShelf (OfStreams decoding ImageAndReport format x) status before after

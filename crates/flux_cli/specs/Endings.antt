@@ -1,19 +1,31 @@
--- How a command ends by what its work answered: with a status, or with a line to the notes that says why the input is refused.
+-- How a command ends by what its work answered: with a status, or with a line to the notes that
+-- says why the input is refused.
 use Rattle.std.specs.Prelude.{◌≡◌, ℕ, List, Option, Result, Ok, Err}
 use Rattle.dump_reading.specs.declared.fault.DumpsFault.{DumpsFault}
-use Rattle.dump_reading.specs.declared.fault.DumpsFault.TheVariants.{NoFiles, ImageFault as DumpsUnwritten, NotesFault as DumpsUntold}
+use Rattle.dump_reading.specs.declared.fault.DumpsFault.TheVariants.{NoFiles}
+use Rattle.dump_reading.specs.declared.fault.DumpsFault.TheVariants.{ImageFault as DumpsUnwritten}
+use Rattle.dump_reading.specs.declared.fault.DumpsFault.TheVariants.{NotesFault as DumpsUntold}
 use Rattle.flux_base.specs.Blames.{Blame, no_one}
 use Rattle.flux_base.specs.Moments.{Moment, Puts}
 use Rattle.flux_base.specs.declared.outside.Failed.{Failed}
 use Rattle.flux_base.specs.declared.status.Status.{Status}
-use Rattle.flux_base.specs.declared.status.Status.TheVariants.{AllGood, Refused, ReadFault, ImageFault, NotesFault}
+use Rattle.flux_base.specs.declared.status.Status.TheVariants.{AllGood, Refused, ReadFault}
+use Rattle.flux_base.specs.declared.status.Status.TheVariants.{ImageFault, NotesFault}
 use Rattle.flux_engine.specs.PlanAnswers.{PlanAnswer}
 use Rattle.flux_engine.specs.Writes.{Answer as ImageAnswer}
-use Rattle.flux_engine.specs.declared.fault.PlanFault.TheVariants.{Refused as PlanRefused, ReadFault as PlanUnread, ImageFault as PlanUnwritten, NotesFault as PlanUntold}
-use Rattle.flux_engine.specs.declared.write_fault.WriteFault.TheVariants.{WrongSize, ReadFault as ImageUnread, ImageFault as ImageUnwritten}
+use Rattle.flux_engine.specs.declared.fault.PlanFault.TheVariants.{Refused as PlanRefused}
+use Rattle.flux_engine.specs.declared.fault.PlanFault.TheVariants.{ReadFault as PlanUnread}
+use Rattle.flux_engine.specs.declared.fault.PlanFault.TheVariants.{ImageFault as PlanUnwritten}
+use Rattle.flux_engine.specs.declared.fault.PlanFault.TheVariants.{NotesFault as PlanUntold}
+use Rattle.flux_engine.specs.declared.write_fault.WriteFault.TheVariants.{WrongSize}
+use Rattle.flux_engine.specs.declared.write_fault.WriteFault.TheVariants.{ReadFault as ImageUnread}
+use Rattle.flux_engine.specs.declared.write_fault.WriteFault.TheVariants.{ImageFault as ImageUnwritten}
 use Rattle.g64_image.specs.Answers.{FromAnswer}
 use Rattle.g64_image.specs.Lines.{g64_text}
-use Rattle.g64_image.specs.declared.fault.FromStop.TheVariants.{Refused as FileRefused, ReadFault as FileUnread, ImageFault as FileUnwritten, NotesFault as FileUntold}
+use Rattle.g64_image.specs.declared.fault.FromStop.TheVariants.{Refused as FileRefused}
+use Rattle.g64_image.specs.declared.fault.FromStop.TheVariants.{ReadFault as FileUnread}
+use Rattle.g64_image.specs.declared.fault.FromStop.TheVariants.{ImageFault as FileUnwritten}
+use Rattle.g64_image.specs.declared.fault.FromStop.TheVariants.{NotesFault as FileUntold}
 use Rattle.sector_report.specs.Lines.{image_text}
 use Rattle.sector_report.specs.declared.naming.Naming.{Naming}
 use Rattle.flux_cli.specs.PlanWork.{status_of, stop_text}
@@ -28,7 +40,8 @@ pub data Ending : Type 0 where
 abbrev pub EndsBy : {N : Type 0} → Ending → Status → (before after : Moment N) → Type 0
 EndsBy (ends status) answer before after = (answer ≡ status) × (after ≡ before)
 EndsBy (refuses text) Refused before after = Puts {T = Unit {0}} before after text (Ok tt)
-EndsBy (refuses text) NotesFault before after = (failed : Failed) × Puts {T = Unit {0}} before after text (Err failed)
+EndsBy (refuses text) NotesFault before after =
+    (failed : Failed) × Puts {T = Unit {0}} before after text (Err failed)
 EndsBy (refuses text) _ before after = ⊥
 
 -- the status where a line refuses the input, by what became of that line
@@ -59,7 +72,9 @@ plan_ending naming (Err PlanUnread) = ends ReadFault
 plan_ending naming (Err PlanUnwritten) = ends ImageFault
 plan_ending naming (Err PlanUntold) = ends NotesFault
 plan_ending naming (Err (PlanRefused track capture block fault)) =
-    refuses (stop_text naming (record { track = track; capture = capture; block = block; fault = fault }))
+    refuses
+    (stop_text naming
+    (record { track = track; capture = capture; block = block; fault = fault }))
 
 -- what is made of an image
 abbrev pub image_ending : ImageAnswer → Ending
@@ -83,16 +98,20 @@ fault_ending line DumpsUnwritten = ends ImageFault
 fault_ending line DumpsUntold = ends NotesFault
 
 -- the line is that on the dump that has no files
-abbrev pub RefusesBy : Option (List File) → (dumps : List (List ℕ)) → DumpsFault → (line : List ℕ) → Type 0
+abbrev pub RefusesBy : Option (List File) → (dumps : List (List ℕ)) → DumpsFault → (line : List ℕ)
+    → Type 0
 RefusesBy told dumps (NoFiles number) line = TellsEmpty told dumps number line
 RefusesBy told dumps _ line = Unit {0}
 
-pub record EndsFault {N : Type 0} (told : Option (List File)) (dumps : List (List ℕ)) (fault : DumpsFault) (status : Status) (before after : Moment N) : Type 0 where
+pub record EndsFault {N : Type 0} (told : Option (List File)) (dumps : List (List ℕ))
+    (fault : DumpsFault) (status : Status) (before after : Moment N) : Type 0 where
   pub line : List ℕ
   pub refuses : RefusesBy told dumps fault line
   pub ends : EndsBy (fault_ending line fault) status before after
 
 -- what was asked of dumps, by what became of it
-abbrev pub EndsDumps : {A N : Type 0} → Option (List File) → (dumps : List (List ℕ)) → (A → Status) → Result A DumpsFault → Status → (before after : Moment N) → Type 0
+abbrev pub EndsDumps : {A N : Type 0} → Option (List File) → (dumps : List (List ℕ)) → (A → Status)
+    → Result A DumpsFault → Status → (before after : Moment N) → Type 0
 EndsDumps told dumps by (Ok done) status before after = EndsBy (ends (by done)) status before after
-EndsDumps told dumps by (Err fault) status before after = EndsFault told dumps fault status before after
+EndsDumps told dumps by (Err fault) status before after =
+    EndsFault told dumps fault status before after

@@ -1,7 +1,9 @@
 -- The works of `to-g64` and `from-g64`.
-use Rattle.std.specs.Prelude.{◌≡◌, ◌⊎◌, ◌<◌, ◌≤◌, ℕ, ◌+◌, ◌++◌, List, [], drop, length, Option, Some, None}
+use Rattle.std.specs.Prelude.{◌≡◌, ◌⊎◌, ◌<◌, ◌≤◌, ℕ, ◌+◌, ◌++◌, List, [], drop, length, Option}
+use Rattle.std.specs.Prelude.{Some, None}
 use Rattle.flux_base.specs.declared.status.Status.{Status}
-use Rattle.flux_base.specs.declared.status.Status.TheVariants.{AllGood, NotAllGood, Refused, ReadFault, ImageFault, NotesFault}
+use Rattle.flux_base.specs.declared.status.Status.TheVariants.{AllGood, NotAllGood, Refused}
+use Rattle.flux_base.specs.declared.status.Status.TheVariants.{ReadFault, ImageFault, NotesFault}
 use Rattle.g64_image.specs.Answers.{StoppedInImage, StoppedInLines, StoppedInTotal}
 use Rattle.g64_image.specs.Faults.{MOST_BYTES, first_fault}
 use Rattle.g64_image.specs.FileDisks.{FileDisk, IsFileDisk}
@@ -24,7 +26,8 @@ file_refusal (Some fault) = g64_text fault
 
 -- the image, and in the notes the report, or why there is none
 abbrev pub from_g64_outcome : FileDisk → Outcome
-from_g64_outcome d = record { status = status_by d.totals d.stop; image = d.image; notes = d.notes ++ file_refusal d.stop }
+from_g64_outcome d =
+    record { status = status_by d.totals d.stop; image = d.image; notes = d.notes ++ file_refusal d.stop }
 
 -- a file is taken to its end, and a refused one at most to one byte more than a file may have
 abbrev pub from_g64_leaves : Status → (x later : List ℕ) → Type 0
@@ -45,7 +48,8 @@ pub record IsWholeInput (format : Format) (x later : List ℕ) : Type 0 where
   pub ended : later ≡ []
 
 -- of a refused file a part of the line was written that says why, which is shorter than it
-pub record CutInFileRefusal (format : Format) (x later : List ℕ) (image notes : Growth) : Type 0 where
+pub record CutInFileRefusal (format : Format) (x later : List ℕ)
+    (image notes : Growth) : Type 0 where
   pub fault : G64Fault
   pub refused : first_fault format x ≡ Some fault
   pub image_got : GotNothing image
@@ -64,7 +68,8 @@ from_g64_cut format ImageFault taken later image notes =
     IsWholeInput format (taken ++ later) later
     × StoppedInImage format (taken ++ later) image.before image.after notes.before notes.after
 from_g64_cut format NotesFault taken later image notes =
-    (IsWholeInput format (taken ++ later) later × CutInFileReport format (taken ++ later) image notes)
+    (IsWholeInput format (taken ++ later) later
+    × CutInFileReport format (taken ++ later) image notes)
     ⊎ CutInFileRefusal format (taken ++ later) later image notes
 from_g64_cut format _ taken later image notes = ⊥
 

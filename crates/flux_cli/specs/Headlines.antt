@@ -1,9 +1,12 @@
--- What is known of a run whatever its input is, and where that is one that the laws speak of: the streams of captured disks and sets, whole or
--- erased in parts, a file that was written of an image, and a trial without a hole.
+-- What is known of a run whatever its input is, and where that is one that the laws speak of: the
+-- streams of captured disks and sets, whole or erased in parts, a file that was written of an
+-- image, and a trial without a hole.
 use Rattle.std.specs.Prelude.{◌≡◌, ℕ, List, [], length, Some, sum}
 use Rattle.flux_base.specs.Outside.{Rose}
 use Rattle.flux_base.specs.declared.status.Status.{Status}
-use Rattle.flux_base.specs.declared.status.Status.TheVariants.{AllGood, NotAllGood, Refused, Usage, ReadFault, ImageFault, NotesFault, Memory, ShelfFault}
+use Rattle.flux_base.specs.declared.status.Status.TheVariants.{AllGood, NotAllGood, Refused, Usage}
+use Rattle.flux_base.specs.declared.status.Status.TheVariants.{ReadFault, ImageFault, NotesFault}
+use Rattle.flux_base.specs.declared.status.Status.TheVariants.{Memory, ShelfFault}
 use Rattle.flux_base.specs.declared.track.TrackId.{TrackId}
 use Rattle.flux_engine.specs.Captured.{IsUsed}
 use Rattle.flux_engine.specs.DiskLaws.{HasLine}
@@ -16,8 +19,10 @@ use Rattle.flux_trial.specs.Laws.{HasNoHole, all_good}
 use Rattle.g64_image.specs.FileDisks.{FileDisk}
 use Rattle.g64_image.specs.Laws.{ComesBack, IsRightlyGoodInFile}
 use Rattle.g64_image.specs.Layout.{g64_file}
-use Rattle.law_captured_plans.specs.Headline.{IsNeverWrong, IsReadInPart, IsReadWhole, StandInOnePiece}
-use Rattle.law_captured_plans.specs.Inputs.{IsCapturedSet, IsErasedSet, IsSteadyErasedSet, IsSteadySet, LiesInACapture}
+use Rattle.law_captured_plans.specs.Headline.{IsNeverWrong, IsReadInPart, IsReadWhole}
+use Rattle.law_captured_plans.specs.Headline.{StandInOnePiece}
+use Rattle.law_captured_plans.specs.Inputs.{IsCapturedSet, IsErasedSet, IsSteadyErasedSet}
+use Rattle.law_captured_plans.specs.Inputs.{IsSteadySet, LiesInACapture}
 use Rattle.law_captured_plans.specs.Said.{AreRightLines}
 use Rattle.sector_images.specs.Places.{tracks}
 use Rattle.sector_images.specs.declared.format.Format.{Format}
@@ -36,7 +41,8 @@ use Rattle.flux_cli.specs.Work.{Got, Outcome}
 use Rattle.flux_cli.specs.World.{Outside}
 use Rattle.flux_cli.specs.Works.{IsWithBytes, plan_of, row_of}
 use Rattle.flux_words.specs.declared.commands.Output.{Output}
-use Rattle.flux_words.specs.declared.commands.Output.TheVariants.{ImageAndReport, ReportAlone, Picture}
+use Rattle.flux_words.specs.declared.commands.Output.TheVariants.{ImageAndReport, ReportAlone}
+use Rattle.flux_words.specs.declared.commands.Output.TheVariants.{Picture}
 
 -- the disk was read to its end, and not refused
 abbrev pub WasRead : Status → Type 0
@@ -45,7 +51,8 @@ WasRead NotAllGood = Unit {0}
 WasRead _ = ⊥
 
 -- the outcome is that of a disk that was read by a plan, of which this holds
-pub record IsOfPlanned (output : Output) (format : Format) (Holds : Planned → Type 0) (o : Outcome) : Type 0 where
+pub record IsOfPlanned (output : Output) (format : Format) (Holds : Planned → Type 0)
+    (o : Outcome) : Type 0 where
   pub planned : Planned
   pub image_is : o.image ≡ to_image output format planned
   pub notes_are : o.notes ≡ to_notes output planned
@@ -58,32 +65,41 @@ pub record IsOfFile (Holds : FileDisk → Type 0) (o : Outcome) : Type 0 where
   pub notes_are : o.notes ≡ disk.notes
   pub holds : Holds disk
 
--- A line of a file's report that says good tells a sector whose cells hold it at the place that it names, with the bytes that the image has
--- of it.
+-- A line of a file's report that says good tells a sector whose cells hold it at the place that it
+-- names, with the bytes that the image has of it.
 abbrev pub AreRightInFile : Format → (file : List ℕ) → FileDisk → Type 0
-AreRightInFile format file d = (track : TrackId) (sector good bad : ℕ) (first : Place) (number : ℕ) → LineFits Unnamed track sector (Good good bad first)
+AreRightInFile format file d = (track : TrackId) (sector good bad : ℕ) (first : Place) (number : ℕ)
+    → LineFits Unnamed track sector (Good good bad first)
     → HasLine d.notes (sector_text track sector (Good good bad first)) number
     → (n : ℕ) × (track ≡ track_at format n) × IsRightlyGoodInFile format file d.image n sector first
 
 -- What is promised of the streams of a disk that are read by a plan.
-pub record OfStreams (plan : Plan) (output : Output) (format : Format) (x : List ℕ) (o : Outcome) : Type 0 where
-  -- Whatever the input is: a line that says good is right. It names the capture and the clock, where the plan has several, the turn and a place there whose
-  -- cells hold the sector, with the bytes that the image has of it.
+pub record OfStreams (plan : Plan) (output : Output) (format : Format) (x : List ℕ)
+    (o : Outcome) : Type 0 where
+  -- Whatever the input is: a line that says good is right. It names the capture and the clock,
+  -- where the plan has several, the turn and a place there whose cells hold the sector, with the
+  -- bytes that the image has of it.
   pub told : WasRead o.status → IsOfPlanned output format (AreRightLines plan format (streams_in plan x)) o
-  -- The headline. From any streams that capture each of an image's written tracks as often as the plan asks for, disturbed within the bounds, exactly
-  -- that image, every sector good. A clock that is held asks that the drives keep their speed.
-  pub captured : (image : List ℕ) → IsImage format image → (set : IsCapturedSet format plan.captures image x)
+  -- The headline. From any streams that capture each of an image's written tracks as often as the
+  -- plan asks for, disturbed within the bounds, exactly that image, every sector good. A clock that
+  -- is held asks that the drives keep their speed.
+  pub captured : (image : List ℕ) → IsImage format image
+      → (set : IsCapturedSet format plan.captures image x)
       → (IsUsed plan.clocks Held → IsSteadySet format plan.captures image x set)
       → (o.status ≡ AllGood) × IsOfPlanned output format (IsReadWhole plan.naming format image) o
   -- Whatever speed they have: each sector good with its own bytes, or contradictory.
-  pub never_wrong : (image : List ℕ) → IsImage format image → IsCapturedSet format plan.captures image x
+  pub never_wrong : (image : List ℕ) → IsImage format image
+      → IsCapturedSet format plan.captures image x
       → WasRead o.status × IsOfPlanned output format (IsNeverWrong plan format image x) o
-  -- Beside erased stretches each sector that one capture has whole between them; every other one good with its own bytes or lost, none contradictory.
-  pub erased : (image : List ℕ) → IsImage format image → (set : IsErasedSet format plan.captures image x)
+  -- Beside erased stretches each sector that one capture has whole between them; every other one
+  -- good with its own bytes or lost, none contradictory.
+  pub erased : (image : List ℕ) → IsImage format image
+      → (set : IsErasedSet format plan.captures image x)
       → (IsUsed plan.clocks Held → IsSteadyErasedSet format plan.captures image x set)
       → WasRead o.status × IsOfPlanned output format (λ d. IsReadInPart plan.naming format image d (LiesInACapture format plan.captures image x set)) o
   -- No sector stands in cells of two pieces.
-  pub one_piece : (image : List ℕ) → IsImage format image → (set : IsErasedSet format plan.captures image x)
+  pub one_piece : (image : List ℕ) → IsImage format image
+      → (set : IsErasedSet format plan.captures image x)
       → StandInOnePiece plan format image x set
 
 -- of a picture its row says all
@@ -98,11 +114,13 @@ pub record OfFile (format : Format) (x : List ℕ) (o : Outcome) : Type 0 where
   pub written : (image : List ℕ) → IsImage format image → x ≡ g64_file format image
       → (o.status ≡ AllGood) × IsOfFile (ComesBack format image) o
 
--- `trial` of a number without a hole: every sector is good, and the sum is that of the trial's image
+-- `trial` of a number without a hole: every sector is good, and the
+-- sum is that of the trial's image
 abbrev pub OfTrial : Format → (seed : ℕ) → Outcome → Type 0
 OfTrial format seed o = HasNoHole seed → o ≡ record {
   status = AllGood;
-  image = trial_text format seed (length (tracks format)) (all_good format) (sum (trial_image format seed));
+  image = trial_text format seed (length (tracks format)) (all_good format)
+      (sum (trial_image format seed));
   notes = [];
 }
 
@@ -114,7 +132,8 @@ IsExpected (a_trial format seed) x o = OfTrial format seed o
 IsExpected _ x o = Unit {0}
 
 -- the sinks got all of an outcome of which this holds
-pub record Gave {S W N : Type 0} (Holds : Outcome → Type 0) (status : Status) (before after : Outside S W N) : Type 0 where
+pub record Gave {S W N : Type 0} (Holds : Outcome → Type 0) (status : Status)
+    (before after : Outside S W N) : Type 0 where
   pub outcome : Outcome
   pub status_is : status ≡ outcome.status
   pub image_got : Got (growth before.image after.image) outcome.image
@@ -122,7 +141,8 @@ pub record Gave {S W N : Type 0} (Holds : Outcome → Type 0) (status : Status) 
   pub holds : Holds outcome
 
 -- or a fault of one object, which that object counted, cut the run; or there was no memory to begin
-abbrev pub GaveOrCut : {S W N : Type 0} → (Holds : Outcome → Type 0) → Status → (before after : Outside S W N) → Type 0
+abbrev pub GaveOrCut : {S W N : Type 0} → (Holds : Outcome → Type 0) → Status
+    → (before after : Outside S W N) → Type 0
 GaveOrCut Holds AllGood before after = Gave Holds AllGood before after
 GaveOrCut Holds NotAllGood before after = Gave Holds NotAllGood before after
 GaveOrCut Holds Refused before after = Gave Holds Refused before after
@@ -134,6 +154,8 @@ GaveOrCut Holds Memory before after = after ≡ before
 GaveOrCut Holds ShelfFault before after = ⊥
 
 -- whatever the words ask for of the source, and whatever input it tells
-abbrev pub RunsAsExpected : {S W N : Type 0} → (words : List (List ℕ)) → Status → (before after : Outside S W N) → Type 0
-RunsAsExpected words status before after = (asked : Asked) (x : List ℕ) → IsWithBytes (row_of asked) → AreWordsOf asked words
+abbrev pub RunsAsExpected : {S W N : Type 0} → (words : List (List ℕ)) → Status
+    → (before after : Outside S W N) → Type 0
+RunsAsExpected words status before after =
+    (asked : Asked) (x : List ℕ) → IsWithBytes (row_of asked) → AreWordsOf asked words
     → before.source.bytes ≡ Some x → GaveOrCut (IsExpected asked x) status before after

@@ -1,14 +1,17 @@
--- What `identify` does: the files of a dump are read on the shelf as those of each disk, one by one.
+-- What `identify` does: the files of a dump are read on the shelf as
+-- those of each disk, one by one.
 use Rattle.std.proofs.Common.{inr}
 use Rattle.std.specs.Prelude.{◌≡◌, ◌⊎◌, ℕ, List, [], ◌∷◌, if◌then◌else◌, Option, Some, None}
 use Rattle.dump_identity.specs.Findings.{is_complete}
 use Rattle.dump_identity.specs.Laws.{FailedAlikeInAll}
-use Rattle.dump_identity.specs.Outcomes.{HasNoFiles, Identified, IsIdentified, WroteIntoBest, WroteIntoLine}
+use Rattle.dump_identity.specs.Outcomes.{HasNoFiles, Identified, IsIdentified, WroteIntoBest}
+use Rattle.dump_identity.specs.Outcomes.{WroteIntoLine}
 use Rattle.dump_identity.specs.declared.finding.Finding.{Finding}
 use Rattle.dump_identity.specs.declared.identity.Identity.{Identity}
 use Rattle.dump_reading.specs.Files.{ShelfNow}
 use Rattle.flux_base.specs.declared.status.Status.{Status}
-use Rattle.flux_base.specs.declared.status.Status.TheVariants.{AllGood, NotAllGood, ImageFault, NotesFault, ShelfFault}
+use Rattle.flux_base.specs.declared.status.Status.TheVariants.{AllGood, NotAllGood, ImageFault}
+use Rattle.flux_base.specs.declared.status.Status.TheVariants.{NotesFault, ShelfFault}
 use Rattle.flux_cli.specs.ShelfWork.{ShelfWork, TellsEmpty, empty_outcome}
 use Rattle.flux_cli.specs.Work.{Growth, Outcome, GotNothing, GotPart}
 
@@ -33,7 +36,8 @@ pub record EmptyDump (dump : List ℕ) (start now : ShelfNow) (line : List ℕ) 
 -- what the dump comes to, by the files that are told, and what the shelf did
 abbrev pub IsOutcomeOfDump : (dump : List ℕ) → (start now : ShelfNow) → Outcome → Type 0
 IsOutcomeOfDump dump start now o =
-    ((line : List ℕ) × EmptyDump dump start now line × (o ≡ empty_outcome line)) ⊎ ((i : Identified) × IsIdentified dump start now i × (o ≡ identity_outcome i))
+    ((line : List ℕ) × EmptyDump dump start now line × (o ≡ empty_outcome line))
+    ⊎ ((i : Identified) × IsIdentified dump start now i × (o ≡ identity_outcome i))
 
 -- the same files failed in two readings of the dump
 abbrev pub FailedAsIdentified : (dump : List ℕ) (start now start' now' : ShelfNow) (a b : Outcome)
@@ -43,10 +47,14 @@ FailedAsIdentified dump start now start' now' a b (inr (i, is, same)) (inr (j, i
 FailedAsIdentified dump start now start' now' a b _ _ = Unit {0}
 
 -- what was written where a fault of a sink cut the work, by the status, which says whose it is
-abbrev pub identity_cut : (dump : List ℕ) → Status → (start now : ShelfNow) → (image notes : Growth) → Type 0
+abbrev pub identity_cut : (dump : List ℕ) → Status → (start now : ShelfNow) → (image notes : Growth)
+    → Type 0
 identity_cut dump ImageFault start now image notes =
-    (WroteIntoLine dump start now image.before image.after ⊎ WroteIntoBest dump start now image.before image.after) × GotNothing notes
-identity_cut dump NotesFault start now image notes = (line : List ℕ) × EmptyDump dump start now line × GotNothing image × GotPart notes line
+    (WroteIntoLine dump start now image.before image.after
+    ⊎ WroteIntoBest dump start now image.before image.after)
+    × GotNothing notes
+identity_cut dump NotesFault start now image notes =
+    (line : List ℕ) × EmptyDump dump start now line × GotNothing image × GotPart notes line
 identity_cut dump _ start now image notes = ⊥
 
 abbrev pub identity_work : (dump : List ℕ) → ShelfWork

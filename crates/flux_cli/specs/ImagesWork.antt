@@ -1,7 +1,9 @@
 -- The works that make something of an image: `write`, and others.
-use Rattle.std.specs.Prelude.{◌≡◌, ◌==◌, ◌<◌, ◌≤◌, ℕ, ◌++◌, List, [], length, drop, min, if◌then◌else◌}
+use Rattle.std.specs.Prelude.{◌≡◌, ◌==◌, ◌<◌, ◌≤◌, ℕ, ◌++◌, List, [], length, drop, min}
+use Rattle.std.specs.Prelude.{if◌then◌else◌}
 use Rattle.flux_base.specs.declared.status.Status.{Status}
-use Rattle.flux_base.specs.declared.status.Status.TheVariants.{AllGood, Refused, ReadFault, ImageFault, NotesFault}
+use Rattle.flux_base.specs.declared.status.Status.TheVariants.{AllGood, Refused, ReadFault}
+use Rattle.flux_base.specs.declared.status.Status.TheVariants.{ImageFault, NotesFault}
 use Rattle.flux_engine.specs.Rings.{streams_of}
 use Rattle.flux_engine.specs.Writes.{most_read}
 use Rattle.sector_images.specs.Formats.{row}
@@ -15,14 +17,16 @@ image_leaves format AllGood x later = later ≡ []
 image_leaves format Refused x later = later ≡ drop (most_read format) x
 image_leaves format _ x later = ⊥
 
--- the source failed inside an image, of which no more was taken than it has, and nothing was written
+-- the source failed inside an image, of which no more was taken than
+-- it has, and nothing was written
 pub record CutInBytes (format : Format) (taken : List ℕ) (image notes : Growth) : Type 0 where
   pub few : length taken ≤ (row format).image_size
   pub image_got : GotNothing image
   pub notes_got : GotNothing notes
 
 module _ (made_of : List ℕ → List ℕ) (format : Format) where
-  -- what is made of an image, and why other bytes are refused: of these no more are counted than one more than an image has
+  -- what is made of an image, and why other bytes are refused: of these no more are counted
+  -- than one more than an image has
   abbrev pub image_outcome : List ℕ → Outcome
   image_outcome x =
       if length x == (row format).image_size
@@ -31,9 +35,11 @@ module _ (made_of : List ℕ → List ℕ) (format : Format) where
 
   abbrev pub image_cut : Status → (taken later : List ℕ) → (image notes : Growth) → Type 0
   image_cut ReadFault taken later image notes = CutInBytes format taken image notes
-  image_cut ImageFault taken later image notes = GivesFront (image_outcome (taken ++ later)) image notes × (later ≡ [])
+  image_cut ImageFault taken later image notes =
+      GivesFront (image_outcome (taken ++ later)) image notes × (later ≡ [])
   image_cut NotesFault taken later image notes =
-      GivesFront (image_outcome (taken ++ later)) image notes × (later ≡ drop (most_read format) (taken ++ later))
+      GivesFront (image_outcome (taken ++ later)) image notes
+      × (later ≡ drop (most_read format) (taken ++ later))
   image_cut _ taken later image notes = ⊥
 
   -- after no more bytes than an image has, more may follow

@@ -1,6 +1,8 @@
--- What is told of a fault of standard output. Under a word that the usage line does not name the notes get one line more behind all else, or a front of
--- it where they fail; and nothing else is called. Under those that it names all is silent.
-use Rattle.std.specs.Prelude.{◌≡◌, ℕ, List, [], ◌∷◌, Bool, true, false, codes, Option, Some, None, Result}
+-- What is told of a fault of standard output. Under a word that the usage line does not name the
+-- notes get one line more behind all else, or a front of it where they fail; and nothing else is
+-- called. Under those that it names all is silent.
+use Rattle.std.specs.Prelude.{◌≡◌, ℕ, List, [], ◌∷◌, Bool, true, false, codes, Option, Some, None}
+use Rattle.std.specs.Prelude.{Result}
 use Rattle.flux_base.specs.Moments.{Moment, Puts}
 use Rattle.flux_base.specs.declared.outside.Failed.{Failed}
 use Rattle.flux_base.specs.declared.status.Status.{Status}
@@ -14,7 +16,8 @@ use Rattle.flux_cli.specs.World.{World}
 abbrev pub failed_output_text : List ℕ
 failed_output_text = codes "failed output\n"
 
--- the usage line does not name the command of a first word: other words than a command's that write are `--help`, `-h` and `--version`
+-- the usage line does not name the command of a first word: other words than a command's that write
+-- are `--help`, `-h` and `--version`
 abbrev pub is_unnamed : Option Verb → Bool
 is_unnamed (Some verb) = is_own verb
 is_unnamed None = true
@@ -30,15 +33,18 @@ is_told words _ = false
 
 -- the notes got the line, or failed in it; where nothing is told, they are as they were
 abbrev pub ToldIf : {N : Type 0} → Bool → (before after : Moment N) → Type 0
-ToldIf true before after = (answer : Result (Unit {0}) Failed) × Puts before after failed_output_text answer
+ToldIf true before after =
+    (answer : Result (Unit {0}) Failed) × Puts before after failed_output_text answer
 ToldIf false before after = after ≡ before
 
 -- the same objects with other notes
 abbrev pub with_notes : {S W N H : Type 0} → Moment N → World S W N H → World S W N H
 with_notes notes now = record now { outside = record now.outside { notes = notes } }
 
--- What a run with these words did: all that the words ask for, by the notes that it left, and then the line, where one is told.
-pub record RanAndTold {S W N H : Type 0} (words : List (List ℕ)) (status : Status) (before after : World S W N H) : Type 0 where
+-- What a run with these words did: all that the words ask for, by the notes that it left, and
+-- then the line, where one is told.
+pub record RanAndTold {S W N H : Type 0} (words : List (List ℕ)) (status : Status)
+    (before after : World S W N H) : Type 0 where
   pub notes : Moment N
   pub ran : Ran words status before (with_notes notes after)
   pub told : ToldIf (is_told words status) notes after.outside.notes

@@ -13,7 +13,8 @@ page_leaves _ x later = ⊥
 
 -- a part of the text that is shorter than it
 abbrev pub page_cut : Page → Status → (taken later : List ℕ) → (image notes : Growth) → Type 0
-page_cut page ImageFault taken later image notes = (taken ≡ []) × GotPart image (page_text page) × GotNothing notes
+page_cut page ImageFault taken later image notes =
+    (taken ≡ []) × GotPart image (page_text page) × GotNothing notes
 page_cut page _ taken later image notes = ⊥
 
 abbrev pub page_work : Page → Work

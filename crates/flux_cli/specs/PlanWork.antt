@@ -1,14 +1,18 @@
--- The work of a command over a disk's streams: in which way they are read, and what of it is given. `decode`, `report`, `map`,
--- `decode-set` and `rescue` are its cases.
-use Rattle.std.specs.Prelude.{◌≡◌, ◌==◌, ◌⊎◌, ℕ, ◌+◌, ◌*◌, ◌++◌, List, [], length, Option, Some, None, if◌then◌else◌}
+-- The work of a command over a disk's streams: in which way they are read, and what of it is given.
+-- `decode`, `report`, `map`, `decode-set` and `rescue` are its cases.
+use Rattle.std.specs.Prelude.{◌≡◌, ◌==◌, ◌⊎◌, ℕ, ◌+◌, ◌*◌, ◌++◌, List, [], length, Option, Some}
+use Rattle.std.specs.Prelude.{None, if◌then◌else◌}
 use Rattle.disk_map.specs.Answers.{StoppedInPicture}
 use Rattle.disk_map.specs.Maps.{drawn_by, picture_of}
 use Rattle.disk_map.specs.Texts.{top_text}
 use Rattle.flux_base.specs.declared.status.Status.{Status}
-use Rattle.flux_base.specs.declared.status.Status.TheVariants.{AllGood, NotAllGood, Refused, ReadFault, ImageFault, NotesFault}
+use Rattle.flux_base.specs.declared.status.Status.TheVariants.{AllGood, NotAllGood, Refused}
+use Rattle.flux_base.specs.declared.status.Status.TheVariants.{ReadFault, ImageFault, NotesFault}
 use Rattle.flux_engine.specs.Answers.{AppendsAndPart, IsTakenBehind}
-use Rattle.flux_engine.specs.PlanAnswers.{PlanStoppedInImage, PlanStoppedInLines, PlanStoppedInTotal}
-use Rattle.flux_engine.specs.Plans.{EndsInPlan, IsFirstFault, IsPlanned, PartOf, PlanStop, Planned, streams_in}
+use Rattle.flux_engine.specs.PlanAnswers.{PlanStoppedInImage, PlanStoppedInLines}
+use Rattle.flux_engine.specs.PlanAnswers.{PlanStoppedInTotal}
+use Rattle.flux_engine.specs.Plans.{EndsInPlan, IsFirstFault, IsPlanned, PartOf, PlanStop, Planned}
+use Rattle.flux_engine.specs.Plans.{streams_in}
 use Rattle.flux_engine.specs.Tracks.{part_by}
 use Rattle.flux_engine.specs.declared.plan.Plan.{Plan}
 use Rattle.kryo_stream.specs.declared.fault.StreamFault.TheVariants.{Truncated}
@@ -16,12 +20,14 @@ use Rattle.sector_images.specs.Places.{tracks}
 use Rattle.sector_images.specs.declared.format.Format.{Format}
 use Rattle.sector_report.specs.Lines.{refused_capture_text, refused_text}
 use Rattle.sector_report.specs.declared.naming.Naming.{Naming}
-use Rattle.sector_report.specs.declared.naming.Naming.TheVariants.{ByCapture, ByCaptureAndClock, ByClock, Unnamed}
+use Rattle.sector_report.specs.declared.naming.Naming.TheVariants.{ByCapture, ByCaptureAndClock}
+use Rattle.sector_report.specs.declared.naming.Naming.TheVariants.{ByClock, Unnamed}
 use Rattle.sector_report.specs.declared.totals.Totals.{Totals}
 use Rattle.flux_cli.specs.TurnsWork.{MOST_AT_ONCE}
 use Rattle.flux_cli.specs.Work.{Outcome, Growth, Got, GotNothing, Work, ends_in_memory}
 use Rattle.flux_words.specs.declared.commands.Output.{Output}
-use Rattle.flux_words.specs.declared.commands.Output.TheVariants.{ImageAndReport, ReportAlone, Picture}
+use Rattle.flux_words.specs.declared.commands.Output.TheVariants.{ImageAndReport, ReportAlone}
+use Rattle.flux_words.specs.declared.commands.Output.TheVariants.{Picture}
 
 -- whether every sector is good
 abbrev pub status_of : Totals → Status
@@ -37,7 +43,8 @@ abbrev pub stop_text : Naming → PlanStop → List ℕ
 stop_text Unnamed stop = refused_text stop.track stop.block stop.fault
 stop_text ByClock stop = refused_text stop.track stop.block stop.fault
 stop_text ByCapture stop = refused_capture_text stop.track stop.capture stop.block stop.fault
-stop_text ByCaptureAndClock stop = refused_capture_text stop.track stop.capture stop.block stop.fault
+stop_text ByCaptureAndClock stop =
+    refused_capture_text stop.track stop.capture stop.block stop.fault
 
 -- if it is
 abbrev pub planned_refusal : Naming → Option PlanStop → List ℕ
@@ -50,7 +57,8 @@ part_shown ImageAndReport naming = part_by naming
 part_shown ReportAlone naming = part_by naming
 part_shown Picture naming = drawn_by naming
 
--- what of a disk goes to the sink of the image: the image; or the report in its place, or the picture
+-- what of a disk goes to the sink of the image: the image; or the
+-- report in its place, or the picture
 abbrev pub to_image : Output → Format → Planned → List ℕ
 to_image ImageAndReport format d = d.image
 to_image ReportAlone format d = d.notes
@@ -77,7 +85,8 @@ planned_outcome output naming format d = record {
 
 -- what the streams of an input come to by the plan
 abbrev pub IsRead : Plan → Output → Format → (x : List ℕ) → Planned → Type 0
-IsRead plan output format x d = IsPlanned plan (part_shown output plan.naming) format (streams_in plan x) d
+IsRead plan output format x d =
+    IsPlanned plan (part_shown output plan.naming) format (streams_in plan x) d
 
 -- the wanted streams are taken to their End, and a little after the last
 abbrev pub planned_leaves : Plan → Format → Status → (x later : List ℕ) → Type 0
@@ -90,8 +99,10 @@ planned_leaves plan format Refused x later =
     × IsTakenBehind x later (stop.track * plan.captures + stop.capture) MOST_AT_ONCE
 planned_leaves plan format _ x later = ⊥
 
--- the source failed inside a stream: all was written that the bytes taken come to, and they end inside a block
-pub record CutInReading (plan : Plan) (output : Output) (format : Format) (taken : List ℕ) (image notes : Growth) : Type 0 where
+-- the source failed inside a stream: all was written that the bytes taken come
+-- to, and they end inside a block
+pub record CutInReading (plan : Plan) (output : Output) (format : Format) (taken : List ℕ)
+    (image notes : Growth) : Type 0 where
   pub decoded : Planned
   pub is : IsRead plan output format taken decoded
   pub image_got : Got image (to_image_cut output format decoded)
@@ -100,43 +111,56 @@ pub record CutInReading (plan : Plan) (output : Output) (format : Format) (taken
   pub stops : decoded.stop ≡ Some stop
   pub cut_short : stop.fault ≡ Truncated
 
--- all was written of a refused disk but the line that says why: of it a part that is shorter than it
-pub record CutInRefusal (plan : Plan) (output : Output) (format : Format) (x later : List ℕ) (image notes : Growth) : Type 0 where
+-- all was written of a refused disk but the line that says why: of it
+-- a part that is shorter than it
+pub record CutInRefusal (plan : Plan) (output : Output) (format : Format) (x later : List ℕ)
+    (image notes : Growth) : Type 0 where
   pub decoded : Planned
   pub is : IsRead plan output format x decoded
   pub stop : PlanStop
   pub stops : decoded.stop ≡ Some stop
   pub image_got : Got image (to_image output format decoded)
-  pub notes_got : AppendsAndPart notes.before notes.after (to_notes output decoded) (stop_text plan.naming stop)
+  pub notes_got : AppendsAndPart notes.before notes.after (to_notes output decoded)
+      (stop_text plan.naming stop)
   pub taken : IsTakenBehind x later (stop.track * plan.captures + stop.capture) MOST_AT_ONCE
 
 -- a sink cut the report: in a track's lines, or in the total line
 abbrev pub CutInReport : Plan → Format → (x later : List ℕ) → (image notes : Growth) → Type 0
 CutInReport plan format x later image notes =
-    PlanStoppedInLines plan (part_by plan.naming) format x later image.before image.after notes.before notes.after
-    ⊎ PlanStoppedInTotal plan (part_by plan.naming) format x later image.before image.after notes.before notes.after
+    PlanStoppedInLines plan (part_by plan.naming) format x later image.before image.after
+    notes.before notes.after
+    ⊎ PlanStoppedInTotal plan (part_by plan.naming) format x later image.before image.after
+    notes.before notes.after
 
 -- where the report stands alone, the image goes nowhere
 abbrev pub nowhere : Growth
 nowhere = record { before = None; after = None }
 
 -- the sink of the image cut what it was to get
-abbrev pub CutByImage : Plan → Output → Format → (x later : List ℕ) → (image notes : Growth) → Type 0
+abbrev pub CutByImage : Plan → Output → Format → (x later : List ℕ) → (image notes : Growth)
+    → Type 0
 CutByImage plan ImageAndReport format x later image notes =
-    PlanStoppedInImage plan (part_by plan.naming) format x later image.before image.after notes.before notes.after
-CutByImage plan ReportAlone format x later image notes = CutInReport plan format x later nowhere image × GotNothing notes
+    PlanStoppedInImage plan (part_by plan.naming) format x later image.before image.after
+    notes.before notes.after
+CutByImage plan ReportAlone format x later image notes =
+    CutInReport plan format x later nowhere image × GotNothing notes
 CutByImage plan Picture format x later image notes =
     StoppedInPicture plan format x later image.before image.after × GotNothing notes
 
 -- the sink of the notes cut the report, if that goes there
-abbrev pub CutByNotes : Plan → Output → Format → (x later : List ℕ) → (image notes : Growth) → Type 0
-CutByNotes plan ImageAndReport format x later image notes = CutInReport plan format x later image notes
+abbrev pub CutByNotes : Plan → Output → Format → (x later : List ℕ) → (image notes : Growth)
+    → Type 0
+CutByNotes plan ImageAndReport format x later image notes =
+    CutInReport plan format x later image notes
 CutByNotes plan ReportAlone format x later image notes = ⊥
 CutByNotes plan Picture format x later image notes = ⊥
 
-abbrev pub planned_cut : Plan → Output → Format → Status → (taken later : List ℕ) → (image notes : Growth) → Type 0
-planned_cut plan output format ReadFault taken later image notes = CutInReading plan output format taken image notes
-planned_cut plan output format ImageFault taken later image notes = CutByImage plan output format (taken ++ later) later image notes
+abbrev pub planned_cut : Plan → Output → Format → Status → (taken later : List ℕ)
+    → (image notes : Growth) → Type 0
+planned_cut plan output format ReadFault taken later image notes =
+    CutInReading plan output format taken image notes
+planned_cut plan output format ImageFault taken later image notes =
+    CutByImage plan output format (taken ++ later) later image notes
 planned_cut plan output format NotesFault taken later image notes =
     CutByNotes plan output format (taken ++ later) later image notes
     ⊎ CutInRefusal plan output format (taken ++ later) later image notes
@@ -145,7 +169,9 @@ planned_cut plan output format _ taken later image notes = ⊥
 abbrev pub planned_work : Plan → Output → Format → Work
 planned_work plan output format = record {
   ends = ends_in_memory;
-  gives = λ x o. (d : Planned) × IsRead plan output format x d × (o ≡ planned_outcome output plan.naming format d);
+  gives = λ x o.
+      (d : Planned) × IsRead plan output format x d
+      × (o ≡ planned_outcome output plan.naming format d);
   untold = EndsInPlan plan format;
   leaves = planned_leaves plan format;
   cut = planned_cut plan output format;

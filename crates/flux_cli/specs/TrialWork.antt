@@ -12,21 +12,26 @@ trial_leaves AllGood x later = later ≡ x
 trial_leaves _ x later = ⊥
 
 -- a part of the line that is shorter than it
-pub record CutInTrialLine (format : Format) (seed : ℕ) (taken : List ℕ) (image notes : Growth) : Type 0 where
+pub record CutInTrialLine (format : Format) (seed : ℕ) (taken : List ℕ)
+    (image notes : Growth) : Type 0 where
   pub unread : taken ≡ []
   pub line : List ℕ
   pub is : IsTrialLine format seed line
   pub image_got : GotPart image line
   pub notes_got : GotNothing notes
 
-abbrev pub trial_cut : Format → (seed : ℕ) → Status → (taken later : List ℕ) → (image notes : Growth) → Type 0
-trial_cut format seed ImageFault taken later image notes = CutInTrialLine format seed taken image notes
+abbrev pub trial_cut : Format → (seed : ℕ) → Status → (taken later : List ℕ)
+    → (image notes : Growth) → Type 0
+trial_cut format seed ImageFault taken later image notes =
+    CutInTrialLine format seed taken image notes
 trial_cut format seed _ taken later image notes = ⊥
 
 abbrev pub trial_work : Format → (seed : ℕ) → Work
 trial_work format seed = record {
   ends = ends_in_memory;
-  gives = λ x o. (line : List ℕ) × IsTrialLine format seed line × (o ≡ record { status = AllGood; image = line; notes = [] });
+  gives = λ x o.
+      (line : List ℕ) × IsTrialLine format seed line
+      × (o ≡ record { status = AllGood; image = line; notes = [] });
   untold = λ x. ⊥;
   leaves = trial_leaves;
   cut = trial_cut format seed;

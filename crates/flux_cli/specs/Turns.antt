@@ -12,6 +12,8 @@ turn_line_of indexes turn = turn_text turn (turn_length indexes turn)
 abbrev pub turn_lines : List ℕ → ℕ → List ℕ
 turn_lines indexes count = flat_map (turn_line_of indexes) (range_with_len 1 count)
 
--- the number of the transitions, and then a line for each turn: there is one turn less than there are index times
+-- the number of the transitions, and then a line for each turn: there is one turn
+-- less than there are index times
 abbrev pub turns_text : List ℕ → List ℕ → List ℕ
-turns_text times indexes = transitions_text (length times) ++ turn_lines indexes (length indexes - 1)
+turns_text times indexes =
+    transitions_text (length times) ++ turn_lines indexes (length indexes - 1)

@@ -1,4 +1,5 @@
--- What there is to do for a command: what its input comes to, how much of the input it takes, and where a fault may cut it.
+-- What there is to do for a command: what its input comes to, how much of the input it takes,
+-- and where a fault may cut it.
 use Rattle.std.specs.Prelude.{ℕ, List, take, Option}
 use Rattle.std.specs.Io.KnownBytes.{Appends, Keeps}
 use Rattle.flux_base.specs.Outside.{AppendsPart}
@@ -37,7 +38,8 @@ pub record GivesFront (o : Outcome) (image notes : Growth) : Type 0 where
   pub image_front : GotFront image o.image
   pub notes_front : GotFront notes o.notes
 
--- No command ends as words do that ask for nothing; one that takes no memory never ends for want of it.
+-- No command ends as words do that ask for nothing; one that takes no
+-- memory never ends for want of it.
 abbrev pub ends_in_memory : Status → Type 0
 ends_in_memory Usage = ⊥
 ends_in_memory _ = Unit {0}
@@ -52,10 +54,11 @@ pub record Work : Type 1 where
   pub ends : Status → Type 0
   -- what the input x comes to
   pub gives : (x : List ℕ) → Outcome → Type 0
-  -- bytes x of the front of an input do not tell what it comes to: the source is read after such bytes alone
+  -- bytes x of the front of an input do not tell what it comes to: the source
+  -- is read after such bytes alone
   pub untold : (x : List ℕ) → Type 0
   -- what is left of the input x where all was given, by the status
   pub leaves : Status → (x later : List ℕ) → Type 0
-  -- where a fault may cut the work, by the status, which says whose fault it is: what was taken of the input and what is left,
-  -- and what both sinks got
+  -- where a fault may cut the work, by the status, which says whose fault it is: what was taken of
+  -- the input and what is left, and what both sinks got
   pub cut : Status → (taken later : List ℕ) → (image notes : Growth) → Type 0

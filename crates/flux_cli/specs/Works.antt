@@ -6,7 +6,9 @@ use Rattle.flux_engine.specs.Plans.{decoding, rescuing, set_plan}
 use Rattle.flux_help.specs.WrongWords.{wrong_text}
 use Rattle.flux_engine.specs.declared.plan.Plan.{Plan}
 use Rattle.sector_images.specs.declared.format.Format.{Format}
-use Rattle.flux_words.specs.Asked.{Asked, the_turns, some_streams, a_folder, some_dumps, a_sector, an_identity, written_streams, a_trial, a_g64_file, an_image_of_g64, a_page}
+use Rattle.flux_words.specs.Asked.{Asked, the_turns, some_streams, a_folder, some_dumps, a_sector}
+use Rattle.flux_words.specs.Asked.{an_identity, written_streams, a_trial, a_g64_file}
+use Rattle.flux_words.specs.Asked.{an_image_of_g64, a_page}
 use Rattle.flux_words.specs.CommandWords.{AskFor}
 use Rattle.flux_words.specs.DumpWords.{shown_of}
 use Rattle.flux_words.specs.declared.commands.Way.{Way}
@@ -36,7 +38,8 @@ usage_leaves Usage x later = later ≡ x
 usage_leaves _ x later = ⊥
 
 abbrev pub usage_cut : List ℕ → Status → (taken later : List ℕ) → (image notes : Growth) → Type 0
-usage_cut text NotesFault taken later image notes = (taken ≡ []) × GotNothing image × GotPart notes text
+usage_cut text NotesFault taken later image notes =
+    (taken ≡ []) × GotNothing image × GotPart notes text
 usage_cut text _ taken later image notes = ⊥
 
 abbrev pub usage_work : List ℕ → Work
@@ -48,7 +51,8 @@ usage_work text = record {
   cut = usage_cut text;
 }
 
--- What there is to do: with the bytes of the source, with the files of the shelf, or with those of a folder there.
+-- What there is to do: with the bytes of the source, with the files of the shelf, or
+-- with those of a folder there.
 pub data Row : Type 1 where
   with_bytes : Work → Row
   with_files : ShelfWork → Row
@@ -63,7 +67,8 @@ plan_of ByBothClocks = rescuing
 -- the row of what is asked
 abbrev pub row_of : Asked → Row
 row_of the_turns = with_bytes turns_work
-row_of (some_streams asked) = with_bytes (planned_work (plan_of asked.way) asked.output asked.format)
+row_of (some_streams asked) =
+    with_bytes (planned_work (plan_of asked.way) asked.output asked.format)
 row_of (a_folder format folder) = with_folder format folder
 row_of (some_dumps asked) = with_files (read_work (shown_of asked.options) (asked_disk asked))
 row_of (a_sector asked) = with_files (sector_work (shown_sector asked))
@@ -91,4 +96,5 @@ GivesOf _ x o = ⊥
 
 -- and of the words, where they do not ask for what is on the shelf
 abbrev pub IsOutcome : List (List ℕ) → List ℕ → Outcome → Type 0
-IsOutcome words x o = (asked : Option Asked) × AskFor words asked × GivesOf (row_for words asked) x o
+IsOutcome words x o =
+    (asked : Option Asked) × AskFor words asked × GivesOf (row_for words asked) x o

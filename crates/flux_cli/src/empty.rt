@@ -12,7 +12,8 @@ use track_shelf::{DumpKind, Prefix};
 /// How many bytes of a path are told.
 const MOST_TOLD: usize = 100;
 
-/// Writes that a dump has none of the files that were looked for, and what is there under its word. After `Failed` a part of it was written.
+/// Writes that a dump has none of the files that were looked for, and what is there under its word. After
+/// `Failed` a part of it was written.
 #[tactic(auto, unfolding(crate::specs::EmptyText::empty_text))]
 pub(crate) fn write_empty<N: Sink>(
     number: u8,
@@ -41,7 +42,8 @@ fn front_line(number: u8) -> Line
 
 /// Writes its path, and what is there.
 fn write_path_and_kind<N: Sink>(dump: &[u8], kind: &DumpKind, notes: &mut N) -> Result<(), Failed>
-    ensures { Puts (sink_at N.Sink notes.old) (sink_at N.Sink notes.new) (told_path dump.now ++ kind_text kind.now) result }
+    ensures { Puts (sink_at N.Sink notes.old) (sink_at N.Sink notes.new) (told_path dump.now ++ kind_text kind.now)
+        result }
 {
     match write_path(dump, notes) {
         Ok(()) => write_kind(kind, notes),
@@ -83,7 +85,8 @@ fn write_kind<N: Sink>(kind: &DumpKind, notes: &mut N) -> Result<(), Failed>
 
 /// Writes with what the names of the files that are there begin.
 fn write_named<N: Sink>(prefix: &Prefix, notes: &mut N) -> Result<(), Failed>
-    ensures { Puts (sink_at N.Sink notes.old) (sink_at N.Sink notes.new) (codes " has files " ++ (prefix.now ++ codes "CC.H.raw: name one of them\n")) result }
+    ensures { Puts (sink_at N.Sink notes.old) (sink_at N.Sink notes.new)
+        (codes " has files " ++ (prefix.now ++ codes "CC.H.raw: name one of them\n")) result }
 {
     match write_whole(notes, " has files ".as_bytes()) {
         Ok(()) => write_prefix(prefix, notes),
@@ -92,7 +95,8 @@ fn write_named<N: Sink>(prefix: &Prefix, notes: &mut N) -> Result<(), Failed>
 }
 
 fn write_prefix<N: Sink>(prefix: &Prefix, notes: &mut N) -> Result<(), Failed>
-    ensures { Puts (sink_at N.Sink notes.old) (sink_at N.Sink notes.new) (prefix.now ++ codes "CC.H.raw: name one of them\n") result }
+    ensures { Puts (sink_at N.Sink notes.old) (sink_at N.Sink notes.new)
+        (prefix.now ++ codes "CC.H.raw: name one of them\n") result }
 {
     match write_whole(notes, prefix.as_str().as_bytes()) {
         Ok(()) => write_whole(notes, "CC.H.raw: name one of them\n".as_bytes()),

@@ -1,7 +1,9 @@
-//! How a command ends by what its work answered: one function for each kind of answer. Notes say why an input is refused.
+//! How a command ends by what its work answered: one function for each kind of answer.
+//! Notes say why an input is refused.
 
 ghost use Rattle.std.specs.Prelude.{◌≡◌, [], get_or};
-ghost use Rattle.flux_cli.specs.Endings.{EndsBy, EndsDumps, EndsFault, file_ending, image_ending, plan_ending, refusal, refuses, written_status};
+ghost use Rattle.flux_cli.specs.Endings.{EndsBy, EndsDumps, EndsFault, file_ending, image_ending, plan_ending, refusal};
+ghost use Rattle.flux_cli.specs.Endings.{refuses, written_status};
 ghost use Rattle.flux_cli.specs.IdentityRuns.{identity_status};
 ghost use Rattle.flux_cli.specs.PlanWork.{status_of as totals_status};
 ghost use Rattle.flux_cli.specs.ReadRuns.{read_status};
@@ -98,14 +100,16 @@ pub(crate) fn end_of_file<N: Sink>(answer: Result<Totals, FromStop>, notes: &mut
     }
 }
 
-/// Ends what was asked of dumps and was not done, or not all. Of the first dump that has none of the wanted files the notes say what is there.
+/// Ends what was asked of dumps and was not done, or not all. Of the first dump that has none of the wanted
+/// files the notes say what is there.
 fn end_of_fault<H: Shelf, N: Sink>(
     fault: DumpsFault,
     dumps: &[Word],
     shelf: &H,
     notes: &mut N,
 ) -> Status
-    ensures { EndsFault (H.files shelf.now) dumps.now fault result (sink_at N.Sink notes.old) (sink_at N.Sink notes.new) }
+    ensures { EndsFault (H.files shelf.now) dumps.now fault result (sink_at N.Sink notes.old)
+        (sink_at N.Sink notes.new) }
 {
     match fault {
         DumpsFault::NoFiles { dump } => {
@@ -144,7 +148,8 @@ pub(crate) fn end_of_dumps<H: Shelf, N: Sink>(
     shelf: &H,
     notes: &mut N,
 ) -> Status
-    ensures { EndsDumps (H.files shelf.now) dumps.now read_status answer result (sink_at N.Sink notes.old) (sink_at N.Sink notes.new) }
+    ensures { EndsDumps (H.files shelf.now) dumps.now read_status answer result (sink_at N.Sink notes.old)
+        (sink_at N.Sink notes.new) }
 {
     match answer {
         Ok(totals) => status_of_dumps(&totals),
@@ -159,7 +164,8 @@ pub(crate) fn end_of_identity<H: Shelf, N: Sink>(
     shelf: &H,
     notes: &mut N,
 ) -> Status
-    ensures { EndsDumps (H.files shelf.now) dumps.now identity_status answer result (sink_at N.Sink notes.old) (sink_at N.Sink notes.new) }
+    ensures { EndsDumps (H.files shelf.now) dumps.now identity_status answer result (sink_at N.Sink notes.old)
+        (sink_at N.Sink notes.new) }
 {
     match answer {
         Ok(identity) => status_of_identity(&identity),
@@ -174,7 +180,8 @@ pub(crate) fn end_of_sector<H: Shelf, N: Sink>(
     shelf: &H,
     notes: &mut N,
 ) -> Status
-    ensures { EndsDumps (H.files shelf.now) dumps.now sector_status answer result (sink_at N.Sink notes.old) (sink_at N.Sink notes.new) }
+    ensures { EndsDumps (H.files shelf.now) dumps.now sector_status answer result (sink_at N.Sink notes.old)
+        (sink_at N.Sink notes.new) }
 {
     match answer {
         Ok(totals) => status_of_sector(&totals),

@@ -24,27 +24,36 @@ pub fn outcomes_are_one()
     flux_engine::plans_are_right()
 }
 
-/// What is shown, the dumps, the files on the shelf, and which of them failed, decide the outcome of `read`: there is one at most.
+/// What is shown, the dumps, the files on the shelf, and which of them failed, decide the outcome of
+/// `read`: there is one at most.
 pub fn read_outcomes_are_one()
-    ensures { (shown : Shown) (disk : DumpDisk) (files : List File) (start now start' now' : ShelfNow) → start.told.files ≡ Some files → start'.told.files ≡ Some files
-        → (a b : Outcome) (p : IsOutcomeOfDumps shown disk start now a) (q : IsOutcomeOfDumps shown disk start' now' b) → FailedAsRead shown disk start now start' now' a b p q → a ≡ b }
+    ensures { (shown : Shown) (disk : DumpDisk) (files : List File) (start now start' now' : ShelfNow)
+        → start.told.files ≡ Some files → start'.told.files ≡ Some files
+        → (a b : Outcome) (p : IsOutcomeOfDumps shown disk start now a) (q : IsOutcomeOfDumps shown disk start' now' b)
+        → FailedAsRead shown disk start now start' now' a b p q → a ≡ b }
 {
     law_read_dumps::all_of_dumps_is_one()
 }
 
-/// A dump, the files on the shelf, and which of them failed each time, decide the outcome of `identify`: there is one at most.
+/// A dump, the files on the shelf, and which of them failed each time, decide the outcome of
+/// `identify`: there is one at most.
 pub fn identity_outcomes_are_one()
-    ensures { (dump : List ℕ) (files : List File) (start now start' now' : ShelfNow) → start.told.files ≡ Some files → start'.told.files ≡ Some files
-        → (a b : Outcome) (p : IsOutcomeOfDump dump start now a) (q : IsOutcomeOfDump dump start' now' b) → FailedAsIdentified dump start now start' now' a b p q → a ≡ b }
+    ensures { (dump : List ℕ) (files : List File) (start now start' now' : ShelfNow) → start.told.files ≡ Some files
+        → start'.told.files ≡ Some files
+        → (a b : Outcome) (p : IsOutcomeOfDump dump start now a) (q : IsOutcomeOfDump dump start' now' b)
+        → FailedAsIdentified dump start now start' now' a b p q → a ≡ b }
 {
     dump_identity::identities_are_one()
 }
 
-/// Where the streams of a sector's track have lists of all that can be read in them, which reading them makes, what is asked, the files on the shelf, and
-/// which of them failed, decide the outcome of `show`: there is one at most.
+/// Where the streams of a sector's track have lists of all that can be read in them, which reading them makes, what is
+/// asked, the files on the shelf, and which of them failed, decide the outcome of `show`: there is one at most.
 pub fn sector_outcomes_are_one()
-    ensures { (asked : SectorAsked) (files : List File) (captures : List (List NotedReading)) (start now start' now' : ShelfNow) → start.told.files ≡ Some files → start'.told.files ≡ Some files
-        → (a b : Outcome) (p : IsOutcomeOfSector asked start now a) (q : IsOutcomeOfSector asked start' now' b) → ReadingsOfShown asked start now a p captures
+    ensures { (asked : SectorAsked) (files : List File) (captures : List (List NotedReading))
+        (start now start' now' : ShelfNow)
+        → start.told.files ≡ Some files → start'.told.files ≡ Some files
+        → (a b : Outcome) (p : IsOutcomeOfSector asked start now a) (q : IsOutcomeOfSector asked start' now' b)
+        → ReadingsOfShown asked start now a p captures
         → FailedAsShown asked start now start' now' a b p q → a ≡ b }
 {
     sector_copies::shown_sectors_are_one()

@@ -1,5 +1,5 @@
-//! The program's one call [`run`], and what it does for each of the words that it is asked by; with it the adapters over the standard streams
-//! (`std_streams`).
+//! The program's one call [`run`], and what it does for each of the words that it is asked by; with it the adapters
+//! over the standard streams (`std_streams`).
 #![tactic(auto)]
 
 mod empty;

@@ -7,8 +7,8 @@ ghost use Rattle.flux_base.specs.World.{sink_at};
 use flux_base::{Sink, Status, Word, write_whole};
 use flux_help::Verb;
 
-/// Tells a fault of the output in a line of the notes, under words that the usage line does not name. The exit code tells it too, whatever becomes
-/// of the line.
+/// Tells a fault of the output in a line of the notes, under words that the usage line does not name. The exit code
+/// tells it too, whatever becomes of the line.
 pub(crate) fn tell_output<N: Sink>(words: &[Word], status: Status, notes: &mut N)
     ensures { ToldIf (is_told words.now status) (sink_at N.Sink notes.old) (sink_at N.Sink notes.new) }
 {

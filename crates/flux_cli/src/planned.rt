@@ -46,7 +46,8 @@ pub(crate) fn decode_by_plan<S: Source, W: Sink, N: Sink>(
     }
 }
 
-/// Decodes a disk by a plan, and gives its image with its report, the report alone, or a picture. Notes say why it is refused.
+/// Decodes a disk by a plan, and gives its image with its report, the report alone, or a
+/// picture. Notes say why it is refused.
 pub fn decode<S: Source, W: Sink, N: Sink>(
     room: &mut DiskRoom,
     plan: Plan,
@@ -102,7 +103,8 @@ pub(crate) fn stop_line(
     block: u32,
     fault: &StreamFault,
 ) -> Line
-    ensures { result.bytes ≡ stop_text naming (record { track = track; capture = capture; block = block; fault = fault.now }) }
+    ensures { result.bytes
+        ≡ stop_text naming (record { track = track; capture = capture; block = block; fault = fault.now }) }
 {
     match naming {
         Naming::Unnamed | Naming::ByClock => refused_line(track, block, fault),

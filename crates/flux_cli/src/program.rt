@@ -32,23 +32,24 @@ pub fn run<S: Source, W: Sink, N: Sink, H: Shelf>(
     notes: &mut N,
     shelf: &mut H,
 ) -> Status
-    // It finished, and gave all that its input comes to; or a counted fault of one object cut it at a place that the row of the command
-    // states; or there was no memory to begin, and the world is as it was. The source is read only where the bytes before do not tell what
-    // there is to do. Words that name a folder or dumps are done over the shelf, which stays as it was but for what failed. All others are
-    // done over the source. Behind a fault of the output, under words that the usage line does not name, the notes got one line more, or a
-    // front of it.
+    // It finished, and gave all that its input comes to; or a counted fault of one object cut it at a place that the
+    // row of the command states; or there was no memory to begin, and the world is as it was. The source is read only
+    // where the bytes before do not tell what there is to do. Words that name a folder or dumps are done over the
+    // shelf, which stays as it was but for what failed. All others are done over the source. Behind a fault of the
+    // output, under words that the usage line does not name, the notes got one line more, or a front of it.
     ensures ran { RanAndTold words.now result
         (world_at S.Source W.Sink N.Sink H.Source H.Shelf.own source.old image.old notes.old shelf.old)
         (world_at S.Source W.Sink N.Sink H.Source H.Shelf.own source.new image.new notes.new shelf.new) }
 
-    // A fault is told where that object failed once, in the last call of all that could, and no other one failed; and a run that finished
-    // had none. But under words that read dumps the shelf failed as often as files did that were passed over, and the notes may have failed
-    // once too in the line behind a fault of the output.
+    // A fault is told where that object failed once, in the last call of all that could, and no other one failed; and a
+    // run that finished had none. But under words that read dumps the shelf failed as often as files did that were
+    // passed over, and the notes may have failed once too in the line behind a fault of the output.
     ensures counts { CountsOfRun (reads_dumps words.now) (is_told words.now result) result
         (world_counts (world_at S.Source W.Sink N.Sink H.Source H.Shelf.own source.old image.old notes.old shelf.old))
         (world_counts (world_at S.Source W.Sink N.Sink H.Source H.Shelf.own source.new image.new notes.new shelf.new)) }
 
-    // From streams within the bounds `decode` writes exactly the image, every sector good; and what else is promised of each command.
+    // From streams within the bounds `decode` writes exactly the image, every sector good; and what
+    // else is promised of each command.
     ensures promises { Promises words.now result
         (world_at S.Source W.Sink N.Sink H.Source H.Shelf.own source.old image.old notes.old shelf.old)
         (world_at S.Source W.Sink N.Sink H.Source H.Shelf.own source.new image.new notes.new shelf.new) }

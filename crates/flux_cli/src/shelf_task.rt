@@ -104,8 +104,8 @@ impl<H: Shelf, W: Sink, N: Sink> ShelfTask<H, W, N> for Identify<'_> {
     }
 }
 
-/// Shows a sector of a disk of its dumps: its contents, or one of them alone, go to `image`. Notes say which streams were passed over, or which
-/// dump has none of the disk's files.
+/// Shows a sector of a disk of its dumps: its contents, or one of them alone, go to `image`. Notes say which streams
+/// were passed over, or which dump has none of the disk's files.
 impl<H: Shelf, W: Sink, N: Sink> ShelfTask<H, W, N> for ShowAsked<'_> {
     ghost asked = { λ task. a_sector (asked_sector task) };
 

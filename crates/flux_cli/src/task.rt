@@ -8,7 +8,8 @@ ghost use Rattle.flux_cli.specs.Blamed.{source_blame};
 ghost use Rattle.flux_cli.specs.ShelfRuns.{DoesWithBytes};
 ghost use Rattle.flux_cli.specs.Works.{plan_of, row_of};
 ghost use Rattle.flux_cli.specs.World.{outside_at};
-ghost use Rattle.flux_words.specs.Asked.{Asked, a_g64_file, a_page, a_trial, an_image_of_g64, some_streams, the_turns, written_streams};
+ghost use Rattle.flux_words.specs.Asked.{Asked, a_g64_file, a_page, a_trial, an_image_of_g64, some_streams, the_turns};
+ghost use Rattle.flux_words.specs.Asked.{written_streams};
 
 use crate::endings::{end_of_file, end_of_image, end_of_writing};
 use crate::planned::decode_by_plan;

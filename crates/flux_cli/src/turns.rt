@@ -46,7 +46,8 @@ pub fn print_turns<S: Source, W: Sink, N: Sink>(
 pub fn write_turns<W: Sink>(flux: &TrackFlux, sink: &mut W) -> Result<(), Failed>
     requires times { length flux.now.times < 2 ^ 32 }
     requires indexes { length flux.now.indexes < 2 ^ 32 }
-    ensures { Puts (sink_at W.Sink sink.old) (sink_at W.Sink sink.new) (turns_text flux.now.times flux.now.indexes) result }
+    ensures { Puts (sink_at W.Sink sink.old) (sink_at W.Sink sink.new) (turns_text flux.now.times flux.now.indexes)
+        result }
 {
     let line = transitions_line(flux.times().len() as u32);
     match write_line(sink, &line) {
@@ -58,7 +59,8 @@ pub fn write_turns<W: Sink>(flux: &TrackFlux, sink: &mut W) -> Result<(), Failed
 /// Writes a line for each turn.
 fn write_turn_lines<W: Sink>(flux: &TrackFlux, sink: &mut W) -> Result<(), Failed>
     requires { length flux.now.indexes < 2 ^ 32 }
-    ensures { Puts (sink_at W.Sink sink.old) (sink_at W.Sink sink.new) (turn_lines flux.now.indexes (length flux.now.indexes - 1)) result }
+    ensures { Puts (sink_at W.Sink sink.old) (sink_at W.Sink sink.new)
+        (turn_lines flux.now.indexes (length flux.now.indexes - 1)) result }
 {
     for turn in 1..flux.indexes().len() as u32 {
         let line = turn_line(turn, flux.turn_ticks(turn));

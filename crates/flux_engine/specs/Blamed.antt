@@ -4,11 +4,14 @@ use Rattle.flux_base.specs.Blames.{Blame, no_one, the_source, the_image, the_not
 use Rattle.kryo_stream.specs.declared.fault.CaptureFault.{CaptureFault}
 use Rattle.kryo_stream.specs.declared.fault.CaptureFault.TheVariants.{ReadFault as UnreadCapture}
 use Rattle.flux_engine.specs.declared.fault.PlanFault.{PlanFault}
-use Rattle.flux_engine.specs.declared.fault.PlanFault.TheVariants.{ReadFault, ImageFault, NotesFault}
+use Rattle.flux_engine.specs.declared.fault.PlanFault.TheVariants.{ReadFault, ImageFault}
+use Rattle.flux_engine.specs.declared.fault.PlanFault.TheVariants.{NotesFault}
 use Rattle.flux_engine.specs.declared.track_part.PartFault.{PartFault}
-use Rattle.flux_engine.specs.declared.track_part.PartFault.TheVariants.{ImageFault as PartImageFault, NotesFault as PartNotesFault}
+use Rattle.flux_engine.specs.declared.track_part.PartFault.TheVariants.{ImageFault as PartImageFault}
+use Rattle.flux_engine.specs.declared.track_part.PartFault.TheVariants.{NotesFault as PartNotesFault}
 use Rattle.flux_engine.specs.declared.write_fault.WriteFault.{WriteFault}
-use Rattle.flux_engine.specs.declared.write_fault.WriteFault.TheVariants.{ReadFault as UnreadImage, ImageFault as UnwrittenStreams}
+use Rattle.flux_engine.specs.declared.write_fault.WriteFault.TheVariants.{ReadFault as UnreadImage}
+use Rattle.flux_engine.specs.declared.write_fault.WriteFault.TheVariants.{ImageFault as UnwrittenStreams}
 
 -- a stream was not read for its source's sake
 abbrev pub is_unread : {A : Type 0} → Result A CaptureFault → Bool

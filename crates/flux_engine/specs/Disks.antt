@@ -27,7 +27,8 @@ totals_over parts = record {
   contradictory = sum_by (λ part. part.totals.contradictory) parts;
 }
 
--- the bytes of the image and of the report, the totals, and what stopped it before all tracks were there, if something did
+-- the bytes of the image and of the report, the totals, and what stopped it before all
+-- tracks were there, if something did
 pub record DiskReport (S : Type 0) : Type 0 where
   pub image : List ℕ
   pub notes : List ℕ

@@ -1,5 +1,7 @@
 -- How far the loop over a disk's tracks has come, wherever the streams come from.
-use Rattle.std.specs.Prelude.{◌≡◌, ◌≤◌, ◌<◌, ◌⊎◌, ℕ, ◌+◌, ◌*◌, Bool, false, List, [], ◌∷◌, ◌++◌, count_by, get_or, is_some, length, Option, None, Some, Result, Ok, Err}
+use Rattle.std.specs.Prelude.{◌≡◌, ◌≤◌, ◌<◌, ◌⊎◌, ℕ, ◌+◌, ◌*◌, Bool, false, List, [], ◌∷◌, ◌++◌}
+use Rattle.std.specs.Prelude.{count_by, get_or, is_some, length, Option, None, Some, Result, Ok}
+use Rattle.std.specs.Prelude.{Err}
 use Rattle.std.specs.Io.KnownBytes.{Appends}
 use Rattle.flux_base.specs.declared.track.TrackId.{TrackId}
 use Rattle.index_turns.specs.Track.{TrackState}
@@ -10,11 +12,13 @@ use Rattle.turn_merge.specs.Book.{Knowledge, SameShape, StandsFor}
 use Rattle.turn_merge.specs.Others.{NotedOther, OthersKnown, OthersStandFor}
 use Rattle.turn_merge.specs.Readings.{NotedReading}
 use Rattle.flux_engine.specs.Answers.{AppendsAndPart}
-use Rattle.flux_engine.specs.Captured.{AppendsOthers, AppendsReadings, AreOthersOf, AreReadingsOf, count_of_clocks}
+use Rattle.flux_engine.specs.Captured.{AppendsOthers, AppendsReadings, AreOthersOf, AreReadingsOf}
+use Rattle.flux_engine.specs.Captured.{count_of_clocks}
 use Rattle.flux_engine.specs.Counts.{AreOthersOver, lost_in, told_count, whole_count}
 use Rattle.flux_engine.specs.Disks.{images, lines, totals_over}
 use Rattle.flux_engine.specs.PlanAnswers.{of_part, of_stream}
-use Rattle.flux_engine.specs.Plans.{AreCaptures, AreOthersTo, ArePlannedParts, PartOf, Seen, Streams, is_failed, joined, passed_one, passed_to}
+use Rattle.flux_engine.specs.Plans.{AreCaptures, AreOthersTo, ArePlannedParts, PartOf, Seen}
+use Rattle.flux_engine.specs.Plans.{Streams, is_failed, joined, passed_one, passed_to}
 use Rattle.flux_engine.specs.Reading.{IsBounded}
 use Rattle.flux_engine.specs.Room.{MOST_READINGS, RoomState}
 use Rattle.flux_engine.specs.Tracks.{TrackPart}
@@ -51,12 +55,15 @@ AreWhole came = (i : ℕ) → i < length came → (seen_at came i).fault ≡ Non
 
 -- what a stream says that was read, and one that was passed over
 abbrev pub seen_next : NextStream → TrackState → Seen
-seen_next Read flux = record { fault = None; passed = None; times = flux.times; indexes = flux.indexes }
-seen_next (PassedOver why) flux = record { fault = None; passed = Some why; times = []; indexes = [] }
+seen_next Read flux =
+    record { fault = None; passed = None; times = flux.times; indexes = flux.indexes }
+seen_next (PassedOver why) flux =
+    record { fault = None; passed = Some why; times = []; indexes = [] }
 
--- One stream more came after those before, or ended the disk: by what it is that these streams came, and that the next one ended the
--- disk.
-abbrev pub GivesNext : (Came : List Seen → Type 0) → (Ended : List Seen → CaptureFault → Type 0) → (before : List Seen) → TrackState
+-- One stream more came after those before, or ended the disk: by what it is that these streams
+-- came, and that the next one ended the disk.
+abbrev pub GivesNext : (Came : List Seen → Type 0) → (Ended : List Seen → CaptureFault → Type 0)
+    → (before : List Seen) → TrackState
     → Result NextStream CaptureFault → Type 0
 GivesNext Came Ended before flux (Ok next) = Came (before ++ seen_next next flux ∷ [])
 GivesNext Came Ended before flux (Err fault) = Ended before fault
@@ -66,22 +73,28 @@ abbrev pub IsBoundedNext : NextStream → TrackState → Type 0
 IsBoundedNext Read flux = IsBounded flux
 IsBoundedNext (PassedOver why) flux = Unit {0}
 
--- All readings by a rule and these clocks of the stream that came next were noted, after those before; or that it was passed over.
-pub record HasNotedNext (next : NextStream) (rule : Rule) (clocks : Clocks) (format : Format) (track : TrackId) (flux : TrackState) (capture : ℕ) (old new : Knowledge)
+-- All readings by a rule and these clocks of the stream that came next were noted, after those
+-- before; or that it was passed over.
+pub record HasNotedNext (next : NextStream) (rule : Rule) (clocks : Clocks) (format : Format)
+    (track : TrackId) (flux : TrackState) (capture : ℕ) (old new : Knowledge)
     (passed passed' : List PassedStream) (before after : OthersKnown) : Type 0 where
   pub readings : List NotedReading
-  pub are : AreReadingsOf rule clocks format track (seen_next next flux).times (seen_next next flux).indexes capture readings
+  pub are : AreReadingsOf rule clocks format track (seen_next next flux).times
+      (seen_next next flux).indexes capture readings
   pub noted : AppendsReadings old new readings
   pub passed_are : passed' ≡ passed ++ passed_one capture (seen_next next flux).passed
   pub shape : SameShape old new
   pub few : new.notes ≤ old.notes + MOST_READINGS * count_of_clocks clocks
   pub others : List NotedOther
-  pub others_are : AreOthersOf rule clocks format track (seen_next next flux).times (seen_next next flux).indexes capture others
+  pub others_are : AreOthersOf rule clocks format track (seen_next next flux).times
+      (seen_next next flux).indexes capture others
   pub others_noted : AppendsOthers before after others
   pub few_others : after.notes ≤ before.notes + MOST_READINGS * count_of_clocks clocks
 
 -- One stream more came after those before, and the same was noted in the room.
-pub record HasTakenNext (Came : List ℕ → Bool → List Seen → Type 0) (rule : Rule) (clocks : Clocks) (format : Format) (track : TrackId) (capture : ℕ) (before : List Seen) (old new : RoomState) : Type 0 where
+pub record HasTakenNext (Came : List ℕ → Bool → List Seen → Type 0) (rule : Rule) (clocks : Clocks)
+    (format : Format) (track : TrackId) (capture : ℕ) (before : List Seen)
+    (old new : RoomState) : Type 0 where
   pub here : Seen
   pub whole : here.fault ≡ None
   pub came : Came new.held new.used (before ++ here ∷ [])
@@ -93,14 +106,20 @@ pub record HasTakenNext (Came : List ℕ → Bool → List Seen → Type 0) (rul
   pub others_are : AreOthersOf rule clocks format track here.times here.indexes capture others
   pub others_noted : AppendsOthers old.others new.others others
 
-abbrev pub TakesNext : (Came : List ℕ → Bool → List Seen → Type 0) → (Ended : List Seen → CaptureFault → Type 0) → Rule → Clocks → Format → TrackId → (capture : ℕ) → (before : List Seen)
+abbrev pub TakesNext : (Came : List ℕ → Bool → List Seen → Type 0)
+    → (Ended : List Seen → CaptureFault → Type 0) → Rule → Clocks → Format → TrackId → (capture : ℕ)
+    → (before : List Seen)
     → (old new : RoomState) → Result (Unit {0}) CaptureFault → Type 0
-TakesNext Came Ended rule clocks format track capture before old new (Ok u) = HasTakenNext Came rule clocks format track capture before old new
-TakesNext Came Ended rule clocks format track capture before old new (Err fault) = Ended before fault
+TakesNext Came Ended rule clocks format track capture before old new (Ok u) =
+    HasTakenNext Came rule clocks format track capture before old new
+TakesNext Came Ended rule clocks format track capture before old new (Err fault) =
+    Ended before fault
 
--- After the streams before, the first q captures of track number n came: the room's book stands for all readings of them, and it has
--- those that were passed over, and all others.
-pub record HasGathered (plan : Plan) (format : Format) (n : ℕ) (Came : List ℕ → Bool → List Seen → Type 0) (before : List Seen) (room : RoomState) (q : ℕ) : Type 0 where
+-- After the streams before, the first q captures of track number n came: the room's book stands for
+-- all readings of them, and it has those that were passed over, and all others.
+pub record HasGathered (plan : Plan) (format : Format) (n : ℕ)
+    (Came : List ℕ → Bool → List Seen → Type 0) (before : List Seen) (room : RoomState)
+    (q : ℕ) : Type 0 where
   pub more : List Seen
   pub many_more : length more ≡ q
   pub came : Came room.held room.used (before ++ more)
@@ -117,7 +136,8 @@ pub record HasGathered (plan : Plan) (format : Format) (n : ℕ) (Came : List �
   pub others_stand : OthersStandFor room.others others
 
 -- after the streams before, a capture of track number n ended the disk
-pub record EndedInTrack (plan : Plan) (n : ℕ) (Ended : List Seen → CaptureFault → Type 0) (before : List Seen) (fault : PlanFault) : Type 0 where
+pub record EndedInTrack (plan : Plan) (n : ℕ) (Ended : List Seen → CaptureFault → Type 0)
+    (before : List Seen) (fault : PlanFault) : Type 0 where
   pub capture : ℕ
   pub few : capture < plan.captures
   pub more : List Seen
@@ -127,14 +147,19 @@ pub record EndedInTrack (plan : Plan) (n : ℕ) (Ended : List Seen → CaptureFa
   pub ended : Ended (before ++ more) cause
   pub is : fault ≡ of_stream n capture cause
 
-abbrev pub GathersTrack : Plan → Format → (n : ℕ) → (Came : List ℕ → Bool → List Seen → Type 0) → (Ended : List Seen → CaptureFault → Type 0) → (before : List Seen)
+abbrev pub GathersTrack : Plan → Format → (n : ℕ) → (Came : List ℕ → Bool → List Seen → Type 0)
+    → (Ended : List Seen → CaptureFault → Type 0) → (before : List Seen)
     → RoomState → Result (Unit {0}) PlanFault → Type 0
-GathersTrack plan format n Came Ended before room (Ok u) = HasGathered plan format n Came before room plan.captures
-GathersTrack plan format n Came Ended before room (Err fault) = EndedInTrack plan n Ended before fault
+GathersTrack plan format n Came Ended before room (Ok u) =
+    HasGathered plan format n Came before room plan.captures
+GathersTrack plan format n Came Ended before room (Err fault) =
+    EndedInTrack plan n Ended before fault
 
--- The streams of the first n tracks came, and what these tracks come to was written. Those that were passed over are counted, and the names
--- that are told of other headers.
-pub record HasWritten (plan : Plan) (of : PartOf) (format : Format) (Came : List ℕ → Bool → List Seen → Type 0) (image image' notes notes' : Option (List ℕ)) (room : RoomState) (n : ℕ)
+-- The streams of the first n tracks came, and what these tracks come to was written. Those that
+-- were passed over are counted, and the names that are told of other headers.
+pub record HasWritten (plan : Plan) (of : PartOf) (format : Format)
+    (Came : List ℕ → Bool → List Seen → Type 0) (image image' notes notes' : Option (List ℕ))
+    (room : RoomState) (n : ℕ)
     (totals : Totals) : Type 0 where
   pub streams : List Seen
   pub all : length streams ≡ n * plan.captures
@@ -156,8 +181,11 @@ pub record HasWritten (plan : Plan) (of : PartOf) (format : Format) (Came : List
   pub whole_is : room.whole_others ≡ whole_count others
   pub sound : room.failed ≡ false
 
--- A stream ended the disk, after so many tracks that were written whole, of which these are the totals.
-pub record EndedByStream (plan : Plan) (of : PartOf) (format : Format) (Ended : List Seen → CaptureFault → Type 0) (image image' notes notes' : Option (List ℕ)) (totals : Totals)
+-- A stream ended the disk, after so many tracks that were written whole,
+-- of which these are the totals.
+pub record EndedByStream (plan : Plan) (of : PartOf) (format : Format)
+    (Ended : List Seen → CaptureFault → Type 0) (image image' notes notes' : Option (List ℕ))
+    (totals : Totals)
     (fault : PlanFault) : Type 0 where
   pub number : ℕ
   pub low : number < length (tracks format)
@@ -172,13 +200,18 @@ pub record EndedByStream (plan : Plan) (of : PartOf) (format : Format) (Ended : 
   pub ended : EndedInTrack plan number Ended streams fault
 
 -- what was written of the tracks before, and of the next one, where a sink failed
-abbrev pub WritesFront : PartFault → List TrackPart → (next : TrackPart) → (image image' notes notes' : Option (List ℕ)) → Type 0
-WritesFront ImageFault parts next image image' notes notes' = AppendsAndPart image image' (images parts) next.image × Appends notes notes' (lines parts)
+abbrev pub WritesFront : PartFault → List TrackPart → (next : TrackPart)
+    → (image image' notes notes' : Option (List ℕ)) → Type 0
+WritesFront ImageFault parts next image image' notes notes' =
+    AppendsAndPart image image' (images parts) next.image × Appends notes notes' (lines parts)
 WritesFront NotesFault parts next image image' notes notes' =
-    Appends image image' (images (parts ++ next ∷ [])) × AppendsAndPart notes notes' (lines parts) next.lines
+    Appends image image' (images (parts ++ next ∷ []))
+    × AppendsAndPart notes notes' (lines parts) next.lines
 
 -- A sink failed in the track after those that were written whole. All captures of it came.
-pub record EndedBySink (plan : Plan) (of : PartOf) (format : Format) (Came : List ℕ → Bool → List Seen → Type 0) (image image' notes notes' : Option (List ℕ)) (room : RoomState)
+pub record EndedBySink (plan : Plan) (of : PartOf) (format : Format)
+    (Came : List ℕ → Bool → List Seen → Type 0) (image image' notes notes' : Option (List ℕ))
+    (room : RoomState)
     (fault : PlanFault) : Type 0 where
   pub streams : List Seen
   pub parts : List TrackPart
@@ -193,7 +226,10 @@ pub record EndedBySink (plan : Plan) (of : PartOf) (format : Format) (Came : Lis
   pub is : fault ≡ of_part cause
 
 -- the loop ended with a fault
-abbrev pub EndsLoop : Plan → PartOf → Format → (Came : List ℕ → Bool → List Seen → Type 0) → (Ended : List Seen → CaptureFault → Type 0) → (image image' notes notes' : Option (List ℕ)) → RoomState
+abbrev pub EndsLoop : Plan → PartOf → Format → (Came : List ℕ → Bool → List Seen → Type 0)
+    → (Ended : List Seen → CaptureFault → Type 0) → (image image' notes notes' : Option (List ℕ))
+    → RoomState
     → Totals → PlanFault → Type 0
 EndsLoop plan of format Came Ended image image' notes notes' room totals fault =
-    EndedByStream plan of format Ended image image' notes notes' totals fault ⊎ EndedBySink plan of format Came image image' notes notes' room fault
+    EndedByStream plan of format Ended image image' notes notes' totals fault
+    ⊎ EndedBySink plan of format Came image image' notes notes' room fault

@@ -21,26 +21,32 @@ passed_beside q (Some (Refused block fault)) = passed_one q (Some (Refused block
 passed_beside q None = passed_one q None
 
 -- all headers in the cells that a clock recovers of a capture were noted, after those before
-pub record HasNamesBy (clock : Clock) (format : Format) (near : TrackId) (times indexes : List ℕ) (capture : ℕ) (before after : OthersKnown) : Type 0 where
+pub record HasNamesBy (clock : Clock) (format : Format) (near : TrackId) (times indexes : List ℕ)
+    (capture : ℕ) (before after : OthersKnown) : Type 0 where
   pub others : List NotedOther
   pub others_are : AreNotedBy (AreNamesIn format) clock format near times indexes capture others
   pub others_noted : AppendsOthers before after others
   pub few_others : after.notes ≤ before.notes + MOST_READINGS
 
 -- the same by these clocks, one after the other
-pub record HasNamesOf (clocks : Clocks) (format : Format) (near : TrackId) (times indexes : List ℕ) (capture : ℕ) (before after : OthersKnown) : Type 0 where
+pub record HasNamesOf (clocks : Clocks) (format : Format) (near : TrackId) (times indexes : List ℕ)
+    (capture : ℕ) (before after : OthersKnown) : Type 0 where
   pub others : List NotedOther
   pub others_are : AreNamesOf clocks format near times indexes capture others
   pub others_noted : AppendsOthers before after others
   pub few_others : after.notes ≤ before.notes + MOST_READINGS * count_of_clocks clocks
 
--- All headers of a capture were noted by these clocks, after those before; or that it is passed over.
-pub record HasNotedNames (clocks : Clocks) (format : Format) (near : TrackId) (capture : ℕ) (here : Seen) (passed passed' : List PassedStream) (before after : OthersKnown) : Type 0 where
+-- All headers of a capture were noted by these clocks, after those
+-- before; or that it is passed over.
+pub record HasNotedNames (clocks : Clocks) (format : Format) (near : TrackId) (capture : ℕ)
+    (here : Seen) (passed passed' : List PassedStream) (before after : OthersKnown) : Type 0 where
   pub names : HasNamesOf clocks format near here.times here.indexes capture before after
   pub passed_are : passed' ≡ passed ++ passed_beside capture here.passed
 
 -- A stream of such a track came, and this was noted in the room.
-pub record HasTakenNames (Gave : Seen → Type 0) (clocks : Clocks) (near : TrackId) (capture : ℕ) (old new : RoomState) : Type 0 where
+pub record HasTakenNames (Gave : Seen → Type 0) (clocks : Clocks) (near : TrackId) (capture : ℕ)
+    (old new : RoomState) : Type 0 where
   pub here : Seen
   pub gave : Gave here
-  pub noted : HasNotedNames clocks old.format near capture here old.passed new.passed old.others new.others
+  pub noted : HasNotedNames clocks old.format near capture here old.passed new.passed old.others
+      new.others

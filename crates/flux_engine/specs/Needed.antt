@@ -5,7 +5,8 @@ use Rattle.std.specs.Io.KnownBytes.{Consumes}
 use Rattle.flux_base.specs.Outside.{Gives}
 use Rattle.kryo_stream.specs.Reads.{SourceMoment}
 
--- Reads gave these pieces, each where what the reads before it gave left the answer open. Without a read the count of faults stays.
+-- Reads gave these pieces, each where what the reads before it gave left the answer open. Without a
+-- read the count of faults stays.
 pub record ReadsWhereOpen (IsOpen : List ℕ → Type 0) (old new : SourceMoment) : Type 0 where
   pub pieces : List (List ℕ)
   pub gave : Gives old.given new.given pieces

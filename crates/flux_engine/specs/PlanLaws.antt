@@ -23,54 +23,70 @@ OnePlanned = (plan : Plan) (of : PartOf) (format : Format) (streams : Streams) (
 
 -- the first captures of a track have one list of readings each
 abbrev pub ReadingsInPlansAreOne : Type 0
-ReadingsInPlansAreOne = (plan : Plan) (format : Format) (streams : Streams) (n : ℕ) (a b : List (List NotedReading))
-    → AreCaptures plan format streams n a → AreCaptures plan format streams n b → length a ≡ length b → a ≡ b
+ReadingsInPlansAreOne =
+    (plan : Plan) (format : Format) (streams : Streams) (n : ℕ) (a b : List (List NotedReading))
+    → AreCaptures plan format streams n a → AreCaptures plan format streams n b
+    → length a ≡ length b → a ≡ b
 
 -- the cells that a clock recovers of a capture of track number n
 abbrev pub cells_in : Format → Streams → (n q : ℕ) → Clock → List Bool
-cells_in format streams n q clock = cells_by clock format (track_at format n) (streams n q).times (streams n q).indexes
+cells_in format streams n q clock =
+    cells_by clock format (track_at format n) (streams n q).times (streams n q).indexes
 
 -- these cells hold this sector at the place by a rule, with its sync, header, data and check values
-abbrev pub StandsIn : Rule → Format → Streams → (n q : ℕ) → Clock → (place sector : ℕ) → List ℕ → Type 0
+abbrev pub StandsIn : Rule → Format → Streams → (n q : ℕ) → Clock → (place sector : ℕ) → List ℕ
+    → Type 0
 StandsIn rule format streams n q clock place sector bytes =
-    StandsBy rule format (track_at format n) (drop place (cells_in format streams n q clock)) sector bytes
+    StandsBy rule format (track_at format n) (drop place (cells_in format streams n q clock)) sector
+    bytes
 
--- what is named is a place of a capture, by a clock of the plan, in its turn there, and the cells hold this sector there
-pub record IsNamedIn (plan : Plan) (format : Format) (streams : Streams) (n : ℕ) (named : Place) (sector : ℕ) (bytes : List ℕ) : Type 0 where
+-- what is named is a place of a capture, by a clock of the plan, in its turn there, and
+-- the cells hold this sector there
+pub record IsNamedIn (plan : Plan) (format : Format) (streams : Streams) (n : ℕ) (named : Place)
+    (sector : ℕ) (bytes : List ℕ) : Type 0 where
   pub capture : ℕ
   pub low : capture < plan.captures
   pub clock : Clock
   pub used : IsUsed plan.clocks clock
   pub place : ℕ
-  pub is : named ≡ place_in capture clock (streams n capture).times (streams n capture).indexes (cells_in format streams n capture clock) place
+  pub is : named
+      ≡ place_in capture clock (streams n capture).times (streams n capture).indexes
+      (cells_in format streams n capture clock) place
   pub stands : StandsIn plan.rule format streams n capture clock place sector bytes
 
 -- each good reading names such a place
 abbrev pub GoodReadingsStandInPlans : Type 0
-GoodReadingsStandInPlans = (plan : Plan) (format : Format) (streams : Streams) (n : ℕ) (captures : List (List NotedReading))
+GoodReadingsStandInPlans = (plan : Plan) (format : Format) (streams : Streams) (n : ℕ)
+    (captures : List (List NotedReading))
     → length captures ≡ plan.captures → AreCaptures plan format streams n captures
-    → (reading : NotedReading) (bytes : List ℕ) → Contains (joined captures) reading → reading.bytes ≡ Some bytes
+    → (reading : NotedReading) (bytes : List ℕ) → Contains (joined captures) reading
+    → reading.bytes ≡ Some bytes
     → IsNamedIn plan format streams n reading.place reading.sector bytes
 
--- A sector of track number n is good with its first good reading at this place: the cells that it names hold the sector; the track's
--- part of the image has these bytes for it; and each place whose cells hold it, of any capture and by any clock of the plan, holds
--- the same bytes.
-pub record IsRightlyGoodIn (plan : Plan) (format : Format) (streams : Streams) (n : ℕ) (readings : List NotedReading) (sector : ℕ) (first : Place) : Type 0 where
+-- A sector of track number n is good with its first good reading at this place: the cells that it
+-- names hold the sector; the track's part of the image has these bytes for it; and each place whose
+-- cells hold it, of any capture and by any clock of the plan, holds the same bytes.
+pub record IsRightlyGoodIn (plan : Plan) (format : Format) (streams : Streams) (n : ℕ)
+    (readings : List NotedReading) (sector : ℕ) (first : Place) : Type 0 where
   pub bytes : List ℕ
   pub named : IsNamedIn plan format streams n first sector bytes
   pub in_image : image_bytes (sectors_of format (track_at format n)) readings sector ≡ bytes
-  pub agreed : (q : ℕ) (clock : Clock) (place : ℕ) (others : List ℕ) → q < plan.captures → IsUsed plan.clocks clock
+  pub agreed : (q : ℕ) (clock : Clock) (place : ℕ) (others : List ℕ) → q < plan.captures
+      → IsUsed plan.clocks clock
       → StandsIn plan.rule format streams n q clock place sector others → others ≡ bytes
 
 -- wherever the verdict on a sector over all readings of a track is good
 abbrev pub GoodIsRightInPlans : Type 0
-GoodIsRightInPlans = (plan : Plan) (format : Format) (streams : Streams) (n : ℕ) (captures : List (List NotedReading))
+GoodIsRightInPlans = (plan : Plan) (format : Format) (streams : Streams) (n : ℕ)
+    (captures : List (List NotedReading))
     → length captures ≡ plan.captures → AreCaptures plan format streams n captures
     → (sector good bad : ℕ) (first : Place) → verdict (joined captures) sector ≡ Good good bad first
     → IsRightlyGoodIn plan format streams n (joined captures) sector first
 
--- A sector is contradictory with these two places named: the cells that each names hold the sector there, with other bytes.
-pub record IsRightlyContradictoryIn (plan : Plan) (format : Format) (streams : Streams) (n sector : ℕ) (first other : Place) : Type 0 where
+-- A sector is contradictory with these two places named: the cells that each names hold the
+-- sector there, with other bytes.
+pub record IsRightlyContradictoryIn (plan : Plan) (format : Format) (streams : Streams)
+    (n sector : ℕ) (first other : Place) : Type 0 where
   pub bytes : List ℕ
   pub others : List ℕ
   pub named : IsNamedIn plan format streams n first sector bytes
@@ -78,52 +94,72 @@ pub record IsRightlyContradictoryIn (plan : Plan) (format : Format) (streams : S
   pub differ : ¬ (others ≡ bytes)
 
 abbrev pub ContradictionsAreNamedInPlans : Type 0
-ContradictionsAreNamedInPlans = (plan : Plan) (format : Format) (streams : Streams) (n : ℕ) (captures : List (List NotedReading))
+ContradictionsAreNamedInPlans = (plan : Plan) (format : Format) (streams : Streams) (n : ℕ)
+    (captures : List (List NotedReading))
     → length captures ≡ plan.captures → AreCaptures plan format streams n captures
-    → (sector good bad : ℕ) (first other : Place) → verdict (joined captures) sector ≡ Contradictory good bad first other
+    → (sector good bad : ℕ) (first other : Place)
+    → verdict (joined captures) sector ≡ Contradictory good bad first other
     → IsRightlyContradictoryIn plan format streams n sector first other
 
--- the readings of the first capture by the clock that follows the drive, where all of these are found in its cells
+-- the readings of the first capture by the clock that follows the drive, where all
+-- of these are found in its cells
 abbrev pub first_readings : Format → Streams → (n : ℕ) → List Found → List NotedReading
 first_readings format streams n found =
-    readings_in 0 Following (streams n 0).times (streams n 0).indexes (cells_in format streams n 0 Following) found
+    readings_in 0 Following (streams n 0).times (streams n 0).indexes
+    (cells_in format streams n 0 Following) found
 
 -- they are the first of all
 abbrev pub FirstReadingsLead : Type 0
-FirstReadingsLead = (plan : Plan) (format : Format) (streams : Streams) (n : ℕ) (captures : List (List NotedReading)) (found : List Found)
-    → 1 ≤ plan.captures → length captures ≡ plan.captures → AreCaptures plan format streams n captures
+FirstReadingsLead = (plan : Plan) (format : Format) (streams : Streams) (n : ℕ)
+    (captures : List (List NotedReading)) (found : List Found)
+    → 1 ≤ plan.captures → length captures ≡ plan.captures
+    → AreCaptures plan format streams n captures
     → AreAllBy plan.rule format (track_at format n) (cells_in format streams n 0 Following) found
     → (rest : List NotedReading) × (joined captures ≡ first_readings format streams n found ++ rest)
 
--- over more readings a sector is good with the same first place and the same bytes, or contradictory with the same first place
-abbrev pub StaysGoodOrIsContradicted : (readings longer : List NotedReading) → (sector : ℕ) → (first : Place) → Type 0
+-- over more readings a sector is good with the same first place and the same bytes, or
+-- contradictory with the same first place
+abbrev pub StaysGoodOrIsContradicted : (readings longer : List NotedReading) → (sector : ℕ)
+    → (first : Place) → Type 0
 StaysGoodOrIsContradicted readings longer sector first =
-    ((good bad : ℕ) × (verdict longer sector ≡ Good good bad first) × (agreed longer sector ≡ agreed readings sector))
-    ⊎ ((good bad : ℕ) × (other : Place) × (verdict longer sector ≡ Contradictory good bad first other))
+    ((good bad : ℕ) × (verdict longer sector ≡ Good good bad first)
+    × (agreed longer sector ≡ agreed readings sector))
+    ⊎ ((good bad : ℕ) × (other : Place)
+    × (verdict longer sector ≡ Contradictory good bad first other))
 
--- A sector that is good by the first capture alone and the clock that follows the drive is so by all, with the same first place and
--- the same bytes, or contradictory, with the same first place.
+-- A sector that is good by the first capture alone and the clock that follows the drive is so by
+-- all, with the same first place and the same bytes, or contradictory, with the same first place.
 abbrev pub FirstSourceStaysGood : Type 0
-FirstSourceStaysGood = (plan : Plan) (format : Format) (streams : Streams) (n : ℕ) (captures : List (List NotedReading)) (found : List Found)
-    → 1 ≤ plan.captures → length captures ≡ plan.captures → AreCaptures plan format streams n captures
+FirstSourceStaysGood = (plan : Plan) (format : Format) (streams : Streams) (n : ℕ)
+    (captures : List (List NotedReading)) (found : List Found)
+    → 1 ≤ plan.captures → length captures ≡ plan.captures
+    → AreCaptures plan format streams n captures
     → AreAllBy plan.rule format (track_at format n) (cells_in format streams n 0 Following) found
     → (sector good bad : ℕ) (first : Place)
     → verdict (first_readings format streams n found) sector ≡ Good good bad first
-    → StaysGoodOrIsContradicted (first_readings format streams n found) (joined captures) sector first
+    → StaysGoodOrIsContradicted (first_readings format streams n found) (joined captures) sector
+    first
 
 -- over more readings a sector is good with the same bytes, or contradictory
 abbrev pub IsGoodTooOrContradicted : (readings others : List NotedReading) → (sector : ℕ) → Type 0
 IsGoodTooOrContradicted readings others sector =
-    ((good bad : ℕ) × (first : Place) × (verdict others sector ≡ Good good bad first) × (agreed others sector ≡ agreed readings sector))
-    ⊎ ((good bad : ℕ) × (first other : Place) × (verdict others sector ≡ Contradictory good bad first other))
+    ((good bad : ℕ) × (first : Place) × (verdict others sector ≡ Good good bad first)
+    × (agreed others sector ≡ agreed readings sector))
+    ⊎ ((good bad : ℕ) × (first other : Place)
+    × (verdict others sector ≡ Contradictory good bad first other))
 
--- A sector that is good by the strict rule over the readings of one capture by a clock of the plan is good by the plan's rule over all
--- readings, with the same bytes, or contradictory. (Its first place may be another: by the other rule more stands.)
+-- A sector that is good by the strict rule over the readings of one capture by a clock of the plan
+-- is good by the plan's rule over all readings, with the same bytes, or contradictory. (Its first
+-- place may be another: by the other rule more stands.)
 abbrev pub StrictGoodStays : Type 0
-StrictGoodStays = (plan : Plan) (format : Format) (streams : Streams) (n : ℕ) (captures : List (List NotedReading))
+StrictGoodStays = (plan : Plan) (format : Format) (streams : Streams) (n : ℕ)
+    (captures : List (List NotedReading))
     → length captures ≡ plan.captures → AreCaptures plan format streams n captures
-    → (q : ℕ) → q < plan.captures → (clock : Clock) → IsUsed plan.clocks clock → (found : List Found)
-    → AreReadings (header_at format (track_at format n)) (sector_at format (track_at format n)) (cells_in format streams n q clock) 0 found
-    → let strict = readings_in q clock (streams n q).times (streams n q).indexes (cells_in format streams n q clock) found in
+    → (q : ℕ) → q < plan.captures → (clock : Clock) → IsUsed plan.clocks clock
+    → (found : List Found)
+    → AreReadings (header_at format (track_at format n)) (sector_at format (track_at format n))
+    (cells_in format streams n q clock) 0 found
+    → let strict = readings_in q clock (streams n q).times (streams n q).indexes
+    (cells_in format streams n q clock) found in
     (sector good bad : ℕ) (first : Place) → verdict strict sector ≡ Good good bad first
     → IsGoodTooOrContradicted strict (joined captures) sector

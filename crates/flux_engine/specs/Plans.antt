@@ -1,5 +1,6 @@
 -- What a disk comes to that is read by a plan: so many streams of each track, each by these clocks.
-use Rattle.std.specs.Prelude.{◌≡◌, ◌<◌, ◌⊎◌, ℕ, zero, suc, ◌+◌, ◌*◌, Bool, true, false, List, [], ◌∷◌, ◌++◌, length, flat_map, get_or, Option, Some, None}
+use Rattle.std.specs.Prelude.{◌≡◌, ◌<◌, ◌⊎◌, ℕ, zero, suc, ◌+◌, ◌*◌, Bool, true, false, List, []}
+use Rattle.std.specs.Prelude.{◌∷◌, ◌++◌, length, flat_map, get_or, Option, Some, None}
 use Rattle.flux_base.specs.declared.track.TrackId.{TrackId}
 use Rattle.kryo_stream.specs.Stream.{first_fault, times, indexes}
 use Rattle.kryo_stream.specs.declared.fault.StreamFault.{StreamFault}
@@ -21,8 +22,9 @@ use Rattle.flux_engine.specs.declared.plan.Clocks.TheVariants.{Both, FollowingAl
 use Rattle.flux_engine.specs.declared.plan.Plan.{Plan}
 use Rattle.flux_engine.specs.declared.plan.Rule.TheVariants.{Strict}
 
--- What a stream says: the fault that ends the disk there, with the number of its block; or why it is passed over; or else its
--- transitions and index times. One that is passed over has no such fault, no transitions and no index times.
+-- What a stream says: the fault that ends the disk there, with the number of its block; or why it
+-- is passed over; or else its transitions and index times. One that is passed over has no such
+-- fault, no transitions and no index times.
 pub record Seen : Type 0 where
   pub fault : Option (ℕ × StreamFault)
   pub passed : Option Passed
@@ -37,7 +39,8 @@ seen x = record { fault = first_fault x; passed = None; times = times x; indexes
 abbrev pub Streams : Type 0
 Streams = ℕ → ℕ → Seen
 
--- those of an input in which they follow one another: the captures of a track, and then those of the next
+-- those of an input in which they follow one another: the captures of a
+-- track, and then those of the next
 abbrev pub streams_in : Plan → List ℕ → Streams
 streams_in plan x n q = seen (stream_at x (n * plan.captures + q))
 
@@ -45,7 +48,8 @@ streams_in plan x n q = seen (stream_at x (n * plan.captures + q))
 abbrev pub AreCaptures : Plan → Format → Streams → (n : ℕ) → List (List NotedReading) → Type 0
 AreCaptures plan format streams n captures =
     (q : ℕ) → q < length captures
-    → AreReadingsOf plan.rule plan.clocks format (track_at format n) (streams n q).times (streams n q).indexes q (get_or captures q [])
+    → AreReadingsOf plan.rule plan.clocks format (track_at format n) (streams n q).times
+    (streams n q).indexes q (get_or captures q [])
 
 -- lists of readings, joined in order
 abbrev pub joined : List (List NotedReading) → List NotedReading
@@ -66,41 +70,52 @@ abbrev pub passed_to : Streams → (n : ℕ) → ℕ → List PassedStream
 passed_to streams n zero = []
 passed_to streams n (suc q) = passed_to streams n q ++ passed_one q (streams n q).passed
 
--- all headers of the first captures of track number n that name none of its sectors, capture by capture
+-- all headers of the first captures of track number n that name none of
+-- its sectors, capture by capture
 abbrev pub AreOthersTo : Plan → Format → Streams → (n : ℕ) → ℕ → List NotedOther → Type 0
 AreOthersTo plan format streams n zero others = others ≡ []
 AreOthersTo plan format streams n (suc q) others =
     (before now : List NotedOther) × AreOthersTo plan format streams n q before
-    × AreOthersOf plan.rule plan.clocks format (track_at format n) (streams n q).times (streams n q).indexes q now × (others ≡ before ++ now)
+    × AreOthersOf plan.rule plan.clocks format (track_at format n) (streams n q).times
+    (streams n q).indexes q now
+    × (others ≡ before ++ now)
 
--- All headers of the first captures of a track that is none of the format's, capture by capture: each is an other.
--- They are read with the cells of the format's track that is nearest.
-abbrev pub AreNamesTo : Plan → Format → (near : TrackId) → (captures : ℕ → Seen) → ℕ → List NotedOther → Type 0
+-- All headers of the first captures of a track that is none of the format's, capture by capture:
+-- each is an other. They are read with the cells of the format's track that is nearest.
+abbrev pub AreNamesTo : Plan → Format → (near : TrackId) → (captures : ℕ → Seen) → ℕ
+    → List NotedOther → Type 0
 AreNamesTo plan format near captures zero others = others ≡ []
 AreNamesTo plan format near captures (suc q) others =
     (before now : List NotedOther) × AreNamesTo plan format near captures q before
-    × AreNamesOf plan.clocks format near (captures q).times (captures q).indexes q now × (others ≡ before ++ now)
+    × AreNamesOf plan.clocks format near (captures q).times (captures q).indexes q now
+    × (others ≡ before ++ now)
 
--- what becomes of what was gathered of a track: its part of the image, what is said of it, and its totals
+-- what becomes of what was gathered of a track: its part of the image, what
+-- is said of it, and its totals
 abbrev pub PartOf : Type 0
 PartOf = Format → TrackId → TrackNotes → TrackPart
 
--- no capture of track number n has a fault, and this is what the track comes to by all their readings, joined in order, and by those that
--- are passed over, and by all others
-pub record IsPlannedPart (plan : Plan) (of : PartOf) (format : Format) (streams : Streams) (n : ℕ) (part : TrackPart) : Type 0 where
+-- no capture of track number n has a fault, and this is what the track comes to by all their
+-- readings, joined in order, and by those that are passed over, and by all others
+pub record IsPlannedPart (plan : Plan) (of : PartOf) (format : Format) (streams : Streams) (n : ℕ)
+    (part : TrackPart) : Type 0 where
   pub no_fault : (q : ℕ) → q < plan.captures → (streams n q).fault ≡ None
   pub captures : List (List NotedReading)
   pub many : length captures ≡ plan.captures
   pub each : AreCaptures plan format streams n captures
   pub others : List NotedOther
   pub others_are : AreOthersTo plan format streams n plan.captures others
-  pub is : part ≡ of format (track_at format n) (track_notes (joined captures) (passed_to streams n plan.captures) others)
+  pub is : part
+      ≡ of format (track_at format n)
+      (track_notes (joined captures) (passed_to streams n plan.captures) others)
 
 -- the first tracks, one for each part
 abbrev pub ArePlannedParts : Plan → PartOf → Format → Streams → List TrackPart → Type 0
-ArePlannedParts plan of format streams parts = (n : ℕ) → n < length parts → IsPlannedPart plan of format streams n (part_at parts n)
+ArePlannedParts plan of format streams parts =
+    (n : ℕ) → n < length parts → IsPlannedPart plan of format streams n (part_at parts n)
 
--- the number of a track, that of a capture of it, the number of a block in its stream, and the fault there
+-- the number of a track, that of a capture of it, the number of a block in
+-- its stream, and the fault there
 pub record PlanStop : Type 0 where
   pub track : ℕ
   pub capture : ℕ
@@ -109,19 +124,23 @@ pub record PlanStop : Type 0 where
 
 -- a capture of a track is read before another
 abbrev pub IsBefore : (track capture later_track later_capture : ℕ) → Type 0
-IsBefore track capture later_track later_capture = (track < later_track) ⊎ ((track ≡ later_track) × (capture < later_capture))
+IsBefore track capture later_track later_capture =
+    (track < later_track) ⊎ ((track ≡ later_track) × (capture < later_capture))
 
 -- the first of the streams that has a fault, and that fault
-pub record IsFirstFault (plan : Plan) (format : Format) (streams : Streams) (stop : PlanStop) : Type 0 where
+pub record IsFirstFault (plan : Plan) (format : Format) (streams : Streams)
+    (stop : PlanStop) : Type 0 where
   pub low : stop.track < length (tracks format)
   pub few : stop.capture < plan.captures
-  pub clean : (n q : ℕ) → q < plan.captures → IsBefore n q stop.track stop.capture → (streams n q).fault ≡ None
+  pub clean : (n q : ℕ) → q < plan.captures → IsBefore n q stop.track stop.capture
+      → (streams n q).fault ≡ None
   pub is : (streams stop.track stop.capture).fault ≡ Some (stop.block, stop.fault)
 
 -- where reading stops: there, or nowhere
 abbrev pub StopsAt : Plan → Format → Streams → Option PlanStop → Type 0
 StopsAt plan format streams (Some stop) = IsFirstFault plan format streams stop
-StopsAt plan format streams None = (n q : ℕ) → n < length (tracks format) → q < plan.captures → (streams n q).fault ≡ None
+StopsAt plan format streams None =
+    (n q : ℕ) → n < length (tracks format) → q < plan.captures → (streams n q).fault ≡ None
 
 -- how many tracks are decoded: all before that of the stop, or all
 abbrev pub planned_count : Format → Option PlanStop → ℕ
@@ -132,8 +151,10 @@ planned_count format None = length (tracks format)
 abbrev pub Planned : Type 0
 Planned = DiskReport PlanStop
 
--- what these streams come to: all tracks before that of the first stream with a fault, or all tracks
-pub record IsPlanned (plan : Plan) (of : PartOf) (format : Format) (streams : Streams) (o : Planned) : Type 0 where
+-- what these streams come to: all tracks before that of the first
+-- stream with a fault, or all tracks
+pub record IsPlanned (plan : Plan) (of : PartOf) (format : Format) (streams : Streams)
+    (o : Planned) : Type 0 where
   pub parts : List TrackPart
   pub each : ArePlannedParts plan of format streams parts
   pub stops : StopsAt plan format streams o.stop
@@ -142,15 +163,19 @@ pub record IsPlanned (plan : Plan) (of : PartOf) (format : Format) (streams : St
 
 -- the streams go on after these bytes: they end inside a block, and no stream before has a fault
 abbrev pub EndsInPlan : Plan → Format → List ℕ → Type 0
-EndsInPlan plan format x = (stop : PlanStop) × IsFirstFault plan format (streams_in plan x) stop × (stop.fault ≡ Truncated)
+EndsInPlan plan format x =
+    (stop : PlanStop) × IsFirstFault plan format (streams_in plan x) stop × (stop.fault ≡ Truncated)
 
--- the plan by which a disk is decoded: one stream of each track, by the clock that follows the drive, and lines that name no source
+-- the plan by which a disk is decoded: one stream of each track, by the clock that follows the
+-- drive, and lines that name no source
 abbrev pub decoding : Plan
 decoding = record { captures = 1; rule = Strict; clocks = FollowingAlone; naming = Unnamed }
 
--- that of a set: so many streams of each track, by the clock that follows the drive, and lines that name the capture
+-- that of a set: so many streams of each track, by the clock that follows the drive,
+-- and lines that name the capture
 abbrev pub set_plan : (count : ℕ) → Plan
-set_plan count = record { captures = count; rule = Strict; clocks = FollowingAlone; naming = ByCapture }
+set_plan count =
+    record { captures = count; rule = Strict; clocks = FollowingAlone; naming = ByCapture }
 
 -- that of a rescued disk: one stream of each track, by both clocks, and lines that name the clock
 abbrev pub rescuing : Plan

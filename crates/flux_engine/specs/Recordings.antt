@@ -14,7 +14,8 @@ use Rattle.turn_merge.specs.declared.clock.Clock.TheVariants.{Following, Held}
 -- where the clock recovery of a track starts: at the mean cell of its first turn
 abbrev pub start_of : Format → TrackId → List ℕ → LoopStart
 start_of format track indexes =
-    start_for (zone format track.cylinder).nominal (turn_length indexes 1) (zone format track.cylinder).ring_cells
+    start_for (zone format track.cylinder).nominal (turn_length indexes 1)
+    (zone format track.cylinder).ring_cells
 
 -- a start as a clock takes it: the held one keeps its first period
 abbrev pub start_by : Clock → LoopStart → LoopStart
@@ -23,8 +24,10 @@ start_by Held start = held start
 
 -- the cells that a clock recovers of a track with these transitions and index times
 abbrev pub cells_by : Clock → Format → TrackId → List ℕ → List ℕ → List Bool
-cells_by clock format track times indexes = recovered (start_by clock (start_of format track indexes)) times
+cells_by clock format track times indexes =
+    recovered (start_by clock (start_of format track indexes)) times
 
--- the recovered cells of a track, where nothing else is said: by the clock that follows the drive's speed
+-- the recovered cells of a track, where nothing else is said: by the clock
+-- that follows the drive's speed
 abbrev pub cells_of : Format → TrackId → List ℕ → List ℕ → List Bool
 cells_of format track times indexes = cells_by Following format track times indexes

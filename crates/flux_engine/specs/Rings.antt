@@ -1,5 +1,7 @@
--- What is written of an image: for each track its ring, with the image's bytes in its sectors, and the stream of the ring.
-use Rattle.std.specs.Prelude.{◌≡◌, ◌≤◌, ◌<◌, ℕ, ◌+◌, All, Bool, List, length, take, drop, flat_map, get_or, Option, Some, None}
+-- What is written of an image: for each track its ring, with the image's bytes in its
+-- sectors, and the stream of the ring.
+use Rattle.std.specs.Prelude.{◌≡◌, ◌≤◌, ◌<◌, ℕ, ◌+◌, All, Bool, List, length, take, drop, flat_map}
+use Rattle.std.specs.Prelude.{get_or, Option, Some, None}
 use Rattle.std.specs.List.{range_with_len}
 use Rattle.cell_bits.specs.State.{CellsState, room}
 use Rattle.disk_recordings.specs.Ids.{id_place}
@@ -23,11 +25,13 @@ pub record IsImage (format : Format) (image : List ℕ) : Type 0 where
 
 -- the bytes that an image has at a sector's place
 abbrev pub sector_bytes : Format → TrackId → List ℕ → ℕ → List ℕ
-sector_bytes format track image sector = take (row format).sector_size (drop (sector_place format track sector) image)
+sector_bytes format track image sector =
+    take (row format).sector_size (drop (sector_place format track sector) image)
 
 -- the bytes of all sectors of a track, in the order of the sectors' numbers
 unfoldable pub track_bytes : Format → TrackId → List ℕ → List ℕ
-track_bytes format track image = flat_map (sector_bytes format track image) (numbers (sectors_of format track))
+track_bytes format track image =
+    flat_map (sector_bytes format track image) (numbers (sectors_of format track))
 
 -- the byte that an image has so many bytes behind the beginning of a sector 0
 abbrev pub id_byte : Format → TrackId → List ℕ → ℕ → ℕ
@@ -46,7 +50,8 @@ disk_id format image = id_at (id_place format) format image
 
 -- the ring of a track with an image's bytes in its sectors
 abbrev pub ring_with : Format → TrackId → List ℕ → List Bool
-ring_with format track image = ring_at format (disk_id format image) track (track_bytes format track image)
+ring_with format track image =
+    ring_at format (disk_id format image) track (track_bytes format track image)
 
 -- the ring of track number k, from 0
 abbrev pub ring_of : Format → List ℕ → ℕ → List Bool
@@ -66,13 +71,16 @@ track_stream format image k = stream_of (ring_of format image k) (nominal_of for
 
 -- the streams of all tracks in order, one after another
 unfoldable pub streams_of : Format → List ℕ → List ℕ
-streams_of format image = flat_map (track_stream format image) (range_with_len 0 (length (tracks format)))
+streams_of format image =
+    flat_map (track_stream format image) (range_with_len 0 (length (tracks format)))
 
--- A ring has so many cells, and its neighbouring ones, read cyclically, are one to four cells apart.
+-- A ring has so many cells, and its neighbouring ones, read
+-- cyclically, are one to four cells apart.
 pub record IsRing (cells : ℕ) (ring : List Bool) : Type 0 where
   pub cells_are : length ring ≡ cells
   pub spaced : IsSpaced 1 4 ring
 
 -- there is room for the ring of each track
 abbrev pub HasRoomForRings : Format → CellsState → Type 0
-HasRoomForRings format cells = (track : TrackId) → IsTrack format track → (zone format track.cylinder).ring_cells ≤ room cells
+HasRoomForRings format cells =
+    (track : TrackId) → IsTrack format track → (zone format track.cylinder).ring_cells ≤ room cells

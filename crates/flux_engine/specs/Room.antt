@@ -12,12 +12,13 @@ use Rattle.flux_engine.specs.Recordings.{sectors_of, track_at}
 use Rattle.flux_engine.specs.Writing.{Knows}
 use Rattle.flux_engine.specs.declared.gathered_track.PassedStream.{PassedStream}
 
--- the format, the bytes that were taken from a source and not used yet, whether a stream was read, the number of the
--- next track, the number of the track that was started, how many streams came since (one that is read by both clocks
--- counts twice), what the book knows of its sectors by them, which of them were passed over, what is known of other
--- headers, how many streams of all tracks that were counted were passed over, how many of these since their files
--- failed, how many names of others are told of them and how many of these have whole data, and whether a call
--- answered a fault
+-- the format, the bytes that were taken from a source and not used yet, whether a stream was
+-- read, the number of the next track, the number of the track that was started, how many
+-- streams came since (one that is read by both clocks counts twice), what the book knows of its
+-- sectors by them, which of them were passed over, what is known of other headers, how many
+-- streams of all tracks that were counted were passed over, how many of these since their files
+-- failed, how many names of others are told of them and how many of these have whole data, and
+-- whether a call answered a fault
 pub record RoomState : Type 0 where
   pub format : Format
   pub held : List ℕ
@@ -41,7 +42,8 @@ empty_book format = record {
   most = (sectors_of format (track_at format 0)).count;
   size = (sectors_of format (track_at format 0)).size;
   notes = 0;
-  found = replicate (sectors_of format (track_at format 0)).count (record { verdict = Missing; bytes = None });
+  found = replicate (sectors_of format (track_at format 0)).count
+      (record { verdict = Missing; bytes = None });
 }
 
 -- a room of this format that nothing was done with: its first track is started
@@ -67,18 +69,21 @@ fresh format = record {
 pub record IsBookOf (format : Format) (book : Knowledge) : Type 0 where
   pub first : book.first_sector ≡ (row format).first_sector
   pub size : book.size ≡ (row format).sector_size
-  pub most : (track : TrackId) → IsTrack format track → (zone format track.cylinder).sectors ≤ book.most
+  pub most : (track : TrackId) → IsTrack format track
+      → (zone format track.cylinder).sectors ≤ book.most
 
 -- the most cells of one stream
 abbrev pub MOST_CELLS : ℕ
 MOST_CELLS = 134217728
 
--- room for the most cells that the transitions of a stream can make, and for the readings of any track
+-- room for the most cells that the transitions of a stream can make, and
+-- for the readings of any track
 pub record IsRoomy (format : Format) (cells : CellsState) (book : Knowledge) : Type 0 where
   pub for_cells : MOST_CELLS ≤ room cells
   pub for_book : IsBookOf format book
 
--- The most readings of one stream by one clock: each cell may begin a header, and each of a header's data begins at a cell of its own.
+-- The most readings of one stream by one clock: each cell may begin a header, and each of a
+-- header's data begins at a cell of its own.
 abbrev pub MOST_READINGS : ℕ
 MOST_READINGS = MOST_CELLS * MOST_CELLS
 
@@ -86,9 +91,10 @@ MOST_READINGS = MOST_CELLS * MOST_CELLS
 abbrev pub MOST_SOURCES : ℕ
 MOST_SOURCES = 32
 
--- the book is one for this track of the format, and has the readings of so many streams, where one that is read by both clocks counts
--- twice
-pub record IsStarted (format : Format) (number captures : ℕ) (book : Knowledge) (others : OthersKnown) : Type 0 where
+-- the book is one for this track of the format, and has the readings of so many streams, where one
+-- that is read by both clocks counts twice
+pub record IsStarted (format : Format) (number captures : ℕ) (book : Knowledge)
+    (others : OthersKnown) : Type 0 where
   pub low : number < length (tracks format)
   pub knows : Knows (sectors_of format (track_at format number)) book
   pub few : book.notes ≤ MOST_READINGS * captures

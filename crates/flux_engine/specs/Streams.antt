@@ -7,11 +7,13 @@ use Rattle.kryo_stream.specs.Stream.{stream_length}
 abbrev pub behind_stream : List ℕ → List ℕ
 behind_stream x = drop (stream_length x) x
 
--- what stands after the first n streams of an input; padding that stands there is not passed over yet
+-- what stands after the first n streams of an input; padding that
+-- stands there is not passed over yet
 unfoldable pub behind : List ℕ → ℕ → List ℕ
 behind x zero = x
 behind x (suc n) = behind_stream (input_of (nat_lt 0 n) (behind x n))
 
--- stream number n of an input, from 0, with all that stands after it: padding stands before each stream but the first
+-- stream number n of an input, from 0, with all that stands after it: padding stands
+-- before each stream but the first
 abbrev pub stream_at : List ℕ → ℕ → List ℕ
 stream_at x n = input_of (nat_lt 0 n) (behind x n)

@@ -7,8 +7,13 @@ use Rattle.flux_engine.specs.Tracks.{TrackPart}
 use Rattle.flux_engine.specs.declared.track_part.PartFault.{PartFault}
 use Rattle.flux_engine.specs.declared.track_part.PartFault.TheVariants.{ImageFault, NotesFault}
 
--- the track's part of the image was written, and after it its lines, or a part of them where a sink failed
-abbrev pub WritesPart : TrackPart → (image image' notes notes' : Option (List ℕ)) → Result Totals PartFault → Type 0
-WritesPart part image image' notes notes' (Ok totals) = Appends image image' part.image × Appends notes notes' part.lines × (totals ≡ part.totals)
-WritesPart part image image' notes notes' (Err ImageFault) = AppendsPart image image' part.image × (notes' ≡ notes)
-WritesPart part image image' notes notes' (Err NotesFault) = Appends image image' part.image × AppendsPart notes notes' part.lines
+-- the track's part of the image was written, and after it its lines, or a
+-- part of them where a sink failed
+abbrev pub WritesPart : TrackPart → (image image' notes notes' : Option (List ℕ))
+    → Result Totals PartFault → Type 0
+WritesPart part image image' notes notes' (Ok totals) =
+    Appends image image' part.image × Appends notes notes' part.lines × (totals ≡ part.totals)
+WritesPart part image image' notes notes' (Err ImageFault) =
+    AppendsPart image image' part.image × (notes' ≡ notes)
+WritesPart part image image' notes notes' (Err NotesFault) =
+    Appends image image' part.image × AppendsPart notes notes' part.lines

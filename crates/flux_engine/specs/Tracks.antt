@@ -1,9 +1,12 @@
--- What one track comes to: its readings, and from them its part of the image, its lines and its totals.
-use Rattle.std.specs.Prelude.{ℕ, ◌+◌, ◌-◌, Bool, true, false, List, [], ◌∷◌, length, take, map, flat_map, replicate, count_by, slice_index, unwrap_or}
+-- What one track comes to: its readings, and from them its part of the
+-- image, its lines and its totals.
+use Rattle.std.specs.Prelude.{ℕ, ◌+◌, ◌-◌, Bool, true, false, List, [], ◌∷◌, length, take, map}
+use Rattle.std.specs.Prelude.{flat_map, replicate, count_by, slice_index, unwrap_or}
 use Rattle.std.specs.List.{range_with_len}
 use Rattle.cell_bits.specs.Ones.{ones}
 use Rattle.flux_base.specs.declared.track.TrackId.{TrackId}
-use Rattle.frame_law.specs.declared.reading.Reading.TheVariants.{Nothing, Bad as BadFrame, Good as GoodFrame}
+use Rattle.frame_law.specs.declared.reading.Reading.TheVariants.{Nothing, Bad as BadFrame}
+use Rattle.frame_law.specs.declared.reading.Reading.TheVariants.{Good as GoodFrame}
 use Rattle.frame_law.specs.declared.reading.Reading.{Reading as Frame}
 use Rattle.index_turns.specs.Track.{turn_at}
 use Rattle.sector_images.specs.Places.{sector_in}
@@ -31,7 +34,8 @@ Found = ℕ × Frame × List ℕ
 abbrev pub time_of_place : List ℕ → List Bool → ℕ → ℕ
 time_of_place times cells place = slice_index times (ones (take (place + 1) cells) - 1)
 
--- a place of the cells that a clock recovers of a capture, and the turn in which that transition lies
+-- a place of the cells that a clock recovers of a capture, and the turn
+-- in which that transition lies
 abbrev pub place_in : ℕ → Clock → List ℕ → List ℕ → List Bool → ℕ → Place
 place_in capture clock times indexes cells place =
     record { capture = capture; clock = clock; turn = turn_at indexes (time_of_place times cells place); cell = place }
@@ -65,11 +69,13 @@ image_bytes sectors readings sector = unwrap_or (agreed readings sector) (replic
 
 -- the bytes of the sector that stands at this number, from 0, among those of the track in the image
 abbrev pub image_piece : Format → TrackId → List NotedReading → ℕ → List ℕ
-image_piece format track readings number = image_bytes (sectors_of format track) readings (sector_in format track number)
+image_piece format track readings number =
+    image_bytes (sectors_of format track) readings (sector_in format track number)
 
 -- the track's part of the image: the bytes of each sector at the sector's place
 unfoldable pub image_of : Format → TrackId → List NotedReading → List ℕ
-image_of format track readings = flat_map (image_piece format track readings) (range_with_len 0 (sectors_of format track).count)
+image_of format track readings =
+    flat_map (image_piece format track readings) (range_with_len 0 (sectors_of format track).count)
 
 abbrev pub line_by : Naming → TrackId → List NotedReading → ℕ → List ℕ
 line_by naming track readings sector = named_text naming track sector (verdict readings sector)
@@ -117,15 +123,16 @@ pub record TrackPart : Type 0 where
   pub lines : List ℕ
   pub totals : Totals
 
--- what was gathered of a track's streams: all their readings, joined in order, which of the streams were passed over, and all headers
--- that name none of the track's sectors
+-- what was gathered of a track's streams: all their readings, joined in order, which of the streams
+-- were passed over, and all headers that name none of the track's sectors
 pub record TrackNotes : Type 0 where
   pub readings : List NotedReading
   pub passed : List PassedStream
   pub others : List NotedOther
 
 abbrev pub track_notes : List NotedReading → List PassedStream → List NotedOther → TrackNotes
-track_notes readings passed others = record { readings = readings; passed = passed; others = others }
+track_notes readings passed others =
+    record { readings = readings; passed = passed; others = others }
 
 -- what a track comes to by these readings, with lines that name so much of their sources
 abbrev pub named_part : Naming → Format → TrackId → List NotedReading → TrackPart

@@ -1,6 +1,7 @@
 //! A track by the streams that capture it, one or several: their readings are gathered in one book.
 
-ghost use Rattle.std.specs.Prelude.{◌≡◌, ◌+◌, ◌*◌, ◌≤◌, ◌<◌, [], List, length, IfOk, OnOk, OnErr, true, false, if◌then◌else◌};
+ghost use Rattle.std.specs.Prelude.{◌≡◌, ◌+◌, ◌*◌, ◌≤◌, ◌<◌, [], List, length, IfOk, OnOk, OnErr, true, false};
+ghost use Rattle.std.specs.Prelude.{if◌then◌else◌};
 ghost use Rattle.std.specs.Option.{option_copied};
 ghost use Rattle.flux_base.specs.Blames.{CountsBy};
 ghost use Rattle.flux_base.specs.Counts.{Counts};
@@ -13,7 +14,8 @@ ghost use Rattle.cell_bits.specs.State.{room};
 ghost use Rattle.flux_engine.specs.Gathering.{AreCellsOf, HasNoted, HasNotedBy};
 ghost use Rattle.flux_engine.specs.PlanAnswers.{ReadsByClocks};
 ghost use Rattle.flux_engine.specs.Reading.{IsBounded};
-ghost use Rattle.flux_engine.specs.Recordings.{cells_by, start_by as start_of_clock, track_at, sectors_of as sectors_in};
+ghost use Rattle.flux_engine.specs.Recordings.{cells_by, start_by as start_of_clock, track_at};
+ghost use Rattle.flux_engine.specs.Recordings.{sectors_of as sectors_in};
 ghost use Rattle.flux_engine.specs.Room.{IsRoomy, MOST_CELLS, MOST_READINGS, MOST_SOURCES};
 ghost use Rattle.flux_engine.specs.TrackParts.{WritesPart};
 ghost use Rattle.flux_engine.specs.Tracks.{track_notes};
@@ -45,7 +47,8 @@ use turn_merge::{Clock, Verdict};
 /// Begins a track: what was gathered before is forgotten.
 pub fn start_track(room: &mut DiskRoom, number: u32)
     requires { number < length (tracks room.old.format) }
-    ensures started { room.new ≡ record room.old { started = number; captures = 0; book = room.new.book; passed = []; others = room.new.others } }
+    ensures started { room.new
+        ≡ record room.old { started = number; captures = 0; book = room.new.book; passed = []; others = room.new.others } }
     ensures empty { StandsFor room.new.book [] }
     ensures no_others { OthersStandFor room.new.others [] }
     ensures knows { Knows (sectors_in room.old.format (track_at room.old.format number)) room.new.book }
@@ -62,7 +65,8 @@ pub fn start_track(room: &mut DiskRoom, number: u32)
 /// Reads the next stream as one more that captures the started track, and notes all its readings by the rule and these
 /// clocks after those before, as those of this capture. No answer is for want of memory.
 ///
-/// It counts once for each clock among the at most 32 streams of a track, and a room is not used again for reading after a fault.
+/// It counts once for each clock among the at most 32 streams of a track, and a room is not used
+/// again for reading after a fault.
 pub fn read_by_clocks<S: Source>(
     rule: Rule,
     clocks: Clocks,
@@ -74,10 +78,13 @@ pub fn read_by_clocks<S: Source>(
     requires started { number ≡ room.old.started }
     requires few { room.old.captures + count_of_clocks clocks ≤ MOST_SOURCES }
     requires sound { room.old.failed ≡ false }
-    ensures read { ReadsByClocks rule clocks room.old.format (track_at room.old.format number) capture (S.left source.old) (S.left source.new) room.old.used room.old.held room.new.held room.old.book room.new.book room.old.others room.new.others result }
+    ensures read { ReadsByClocks rule clocks room.old.format (track_at room.old.format number) capture
+        (S.left source.old) (S.left source.new) room.old.used room.old.held room.new.held room.old.book room.new.book
+        room.old.others room.new.others result }
 
     // The source is read only where the bytes at hand do not tell the answer.
-    ensures needed { IsReadWhereNeeded (reads_at S.Source source.old) (reads_at S.Source source.new) room.old.used room.old.held }
+    ensures needed { IsReadWhereNeeded (reads_at S.Source source.old) (reads_at S.Source source.new) room.old.used
+        room.old.held }
 
     // The room after the call.
     ensures format { room.new.format ≡ room.old.format }
@@ -158,7 +165,8 @@ pub fn room_gathered(room: &DiskRoom) -> &Gathered
 /// What the readings of a sector of the started track say together.
 pub fn verdict(room: &DiskRoom, sector: u8) -> Verdict
     requires { IsKnown room.now.book sector }
-    ensures { (readings : List NotedReading) → StandsFor room.now.book readings → result ≡ verdict_over readings sector }
+    ensures { (readings : List NotedReading) → StandsFor room.now.book readings
+        → result ≡ verdict_over readings sector }
 {
     room.tools.gathered.book.verdict(sector)
 }
@@ -166,7 +174,8 @@ pub fn verdict(room: &DiskRoom, sector: u8) -> Verdict
 /// The data of a sector of the started track, where its verdict is `Good`.
 pub fn bytes(room: &DiskRoom, sector: u8) -> Option<&[u8]>
     requires { IsKnown room.now.book sector }
-    ensures { (readings : List NotedReading) → StandsFor room.now.book readings → option_copied result ≡ agreed readings sector }
+    ensures { (readings : List NotedReading) → StandsFor room.now.book readings
+        → option_copied result ≡ agreed readings sector }
 {
     room.tools.gathered.book.bytes(sector)
 }
@@ -178,8 +187,12 @@ pub(crate) fn write_started<O: TrackWriter, W: Sink, N: Sink>(
     image: &mut W,
     notes: &mut N,
 ) -> Result<Totals, PartFault>
-    ensures wrote { (readings : List NotedReading) (others : List NotedOther) → StandsFor room.now.book readings → OthersStandFor room.now.others others
-        → WritesPart (O.part_of writer.now room.now.format (track_at room.now.format room.now.started) (track_notes readings room.now.passed others)) (W.written image.old) (W.written image.new) (N.written notes.old) (N.written notes.new) result }
+    ensures wrote { (readings : List NotedReading) (others : List NotedOther) → StandsFor room.now.book readings
+        → OthersStandFor room.now.others others
+        → WritesPart
+        (O.part_of writer.now room.now.format (track_at room.now.format room.now.started)
+        (track_notes readings room.now.passed others)) (W.written image.old) (W.written image.new)
+        (N.written notes.old) (N.written notes.new) result }
     ensures sum { IfOk result IsSum }
     ensures few { IfOk result (λ totals. totals.sectors ≤ 100) }
     ensures blames { CountsBy (part_blame result)
@@ -193,8 +206,10 @@ pub(crate) fn write_started<O: TrackWriter, W: Sink, N: Sink>(
 
 /// Reads the next stream.
 pub fn read_stream<S: Source>(source: &mut S, stream: &mut StreamRoom) -> Result<(), CaptureFault>
-    ensures read { ReadsStream (S.left source.old) (S.left source.new) stream.old.used stream.old.held stream.new.held stream.new.flux.times stream.new.flux.indexes result }
-    ensures needed { IsReadWhereNeeded (reads_at S.Source source.old) (reads_at S.Source source.new) stream.old.used stream.old.held }
+    ensures read { ReadsStream (S.left source.old) (S.left source.new) stream.old.used stream.old.held stream.new.held
+        stream.new.flux.times stream.new.flux.indexes result }
+    ensures needed { IsReadWhereNeeded (reads_at S.Source source.old) (reads_at S.Source source.new) stream.old.used
+        stream.old.held }
     ensures bounded { OnOk result (IsBounded stream.new.flux) }
     ensures held { length stream.new.held ≤ 4096 }
     ensures used { stream.new.used ≡ true }
@@ -219,7 +234,8 @@ pub(crate) fn note_by_clocks(
     requires knows { Knows (sectors_in format track) tools.old.gathered.book }
     requires few { tools.old.gathered.book.notes + 2 * MOST_READINGS ≤ MOST_NOTES }
     requires few_others { tools.old.gathered.others.notes + 2 * MOST_READINGS ≤ MOST_NOTES }
-    ensures noted { HasNotedBy rule clocks format track flux.now.times flux.now.indexes capture tools.old.gathered.book tools.new.gathered.book tools.old.gathered.others tools.new.gathered.others }
+    ensures noted { HasNotedBy rule clocks format track flux.now.times flux.now.indexes capture tools.old.gathered.book
+        tools.new.gathered.book tools.old.gathered.others tools.new.gathered.others }
     ensures kept { tools.new.gathered.passed ≡ tools.old.gathered.passed }
     ensures roomy { IsRoomy format tools.new.cells tools.new.gathered.book }
 {
@@ -246,7 +262,8 @@ fn note_readings(
     requires knows { Knows (sectors_in format track) tools.old.gathered.book }
     requires few { tools.old.gathered.book.notes + MOST_READINGS ≤ MOST_NOTES }
     requires few_others { tools.old.gathered.others.notes + MOST_READINGS ≤ MOST_NOTES }
-    ensures noted { HasNoted rule clock format track flux.now.times flux.now.indexes capture tools.old.gathered.book tools.new.gathered.book tools.old.gathered.others tools.new.gathered.others }
+    ensures noted { HasNoted rule clock format track flux.now.times flux.now.indexes capture tools.old.gathered.book
+        tools.new.gathered.book tools.old.gathered.others tools.new.gathered.others }
     ensures kept { tools.new.gathered.passed ≡ tools.old.gathered.passed }
     ensures roomy { IsRoomy format tools.new.cells tools.new.gathered.book }
 {

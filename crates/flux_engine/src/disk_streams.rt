@@ -13,7 +13,8 @@ ghost use Rattle.flux_engine.specs.Answers.{Stayed};
 ghost use Rattle.flux_engine.specs.Blamed.{write_blame};
 ghost use Rattle.flux_engine.specs.Needed.{ReadsUpTo};
 ghost use Rattle.flux_engine.specs.Rings.{HasRoomForRings, streams_of};
-ghost use Rattle.flux_engine.specs.Writes.{IsWrittenOrWrongSize, SaysOfBytes, WriteCause, WritesDisk, TakesFewer, most_read};
+ghost use Rattle.flux_engine.specs.Writes.{IsWrittenOrWrongSize, SaysOfBytes, WriteCause, WritesDisk, TakesFewer};
+ghost use Rattle.flux_engine.specs.Writes.{most_read};
 
 use crate::ring_making::track_ring;
 use crate::write_fault::WriteFault;
@@ -33,20 +34,24 @@ pub fn write_disk<S: Source, W: Sink>(
     source: &mut S,
     sink: &mut W,
 ) -> Result<(), WriteFault>
-    ensures wrote { WritesDisk room.old (S.left source.old) (S.left source.new) (W.written sink.old) (W.written sink.new) result }
-    ensures told { (bytes : List ℕ) → S.left source.old ≡ Some bytes → SaysOfBytes room.old bytes (S.left source.new) (W.written sink.old) (W.written sink.new) result }
+    ensures wrote { WritesDisk room.old (S.left source.old) (S.left source.new) (W.written sink.old)
+        (W.written sink.new) result }
+    ensures told { (bytes : List ℕ) → S.left source.old ≡ Some bytes
+        → SaysOfBytes room.old bytes (S.left source.new) (W.written sink.old) (W.written sink.new) result }
 
     // The source is read only where no more bytes than an image has were given.
     ensures needed { ReadsUpTo (most_read room.old) (reads_at S.Source source.old) (reads_at S.Source source.new) }
 
     ensures format { room.new ≡ room.old }
-    ensures cause { WriteCause (S.faults source.old) (S.faults source.new) (W.faults sink.old) (W.faults sink.new) result }
+    ensures cause { WriteCause (S.faults source.old) (S.faults source.new) (W.faults sink.old) (W.faults sink.new)
+        result }
     ensures blames { CountsBy (write_blame result)
         (three_counts (source_counts S.Source source.old) (sink_counts W.Sink sink.old) no_counts)
         (three_counts (source_counts S.Source source.new) (sink_counts W.Sink sink.new) no_counts) }
 
     // Over a source and a sink that do not fail there is no other answer.
-    ensures complete { Stayed (S.faults source.old) (S.faults source.new) → Stayed (W.faults sink.old) (W.faults sink.new) → IsWrittenOrWrongSize result }
+    ensures complete { Stayed (S.faults source.old) (S.faults source.new)
+        → Stayed (W.faults sink.old) (W.faults sink.new) → IsWrittenOrWrongSize result }
     ensures source_later { S.faults source.old ≤ S.faults source.new }
     ensures sink_later { W.faults sink.old ≤ W.faults sink.new }
 {
@@ -69,7 +74,8 @@ pub fn write_disk<S: Source, W: Sink>(
     }
 }
 
-/// Reads until the buffer is full or the source has ended, and gives the number of bytes, which stand at the buffer's front.
+/// Reads until the buffer is full or the source has ended, and gives the number of bytes,
+/// which stand at the buffer's front.
 pub fn fill<S: Source>(buffer: &mut [u8], source: &mut S) -> Result<usize, Failed>
     ensures bound { IfOk result (λ count. count ≤ length buffer.new) }
     ensures len { length buffer.new ≡ length buffer.old }

@@ -5,7 +5,8 @@ ghost use Rattle.frame_law.specs.Readings.{AreReadings};
 ghost use Rattle.index_turns.specs.Track.{turn_at};
 ghost use Rattle.turn_merge.specs.Book.{IsKnown, MOST_NOTES, StandsFor, SameShape};
 ghost use Rattle.turn_merge.specs.Readings.{NotedReading};
-ghost use Rattle.flux_engine.specs.Gathering.{AreCellsOf, IsBookFor, CanBeNoted, Gathers, GathersOthers, IsFoundIn, NotesData, NotesFound, NotesHeader};
+ghost use Rattle.flux_engine.specs.Gathering.{AreCellsOf, IsBookFor, CanBeNoted, Gathers, GathersOthers, IsFoundIn};
+ghost use Rattle.flux_engine.specs.Gathering.{NotesData, NotesFound, NotesHeader};
 ghost use Rattle.flux_engine.specs.Room.{MOST_CELLS, MOST_READINGS};
 ghost use Rattle.flux_engine.specs.Rules.{AreReadByControllers};
 ghost use Rattle.flux_engine.specs.Tracks.{readings_at};
@@ -19,8 +20,8 @@ use frame_law::{
 use index_turns::TrackFlux;
 use turn_merge::{Book, Clock, Place};
 
-/// Notes all readings of a track of the recording in a book, after those that it has, as those of a capture whose cells a clock
-/// recovered. Each cell is looked at once, and its ones are counted once.
+/// Notes all readings of a track of the recording in a book, after those that it has, as those of a capture whose cells
+/// a clock recovered. Each cell is looked at once, and its ones are counted once.
 pub(crate) fn gather<R: Recording>(
     recording: &R,
     track: TrackId,
@@ -33,9 +34,13 @@ pub(crate) fn gather<R: Recording>(
     requires track { R.has_track recording.now track }
     requires cells { AreCellsOf flux.now.times cells.now.cells }
     requires indexes { length flux.now.indexes ≤ 262144 }
-    requires book { IsBookFor (record { first = R.first_sector recording.now; count = R.sectors recording.now track; size = R.sector_size recording.now }) book.old }
+    requires book { IsBookFor
+        (record { first = R.first_sector recording.now; count = R.sectors recording.now track; size = R.sector_size recording.now })
+        book.old }
     requires few { book.old.notes + MOST_READINGS ≤ MOST_NOTES }
-    ensures { Gathers (AreReadings (R.header_at recording.now track) (R.sector_at recording.now track) cells.now.cells 0) flux.now.times flux.now.indexes cells.now.cells capture clock book.old book.new }
+    ensures { Gathers
+        (AreReadings (R.header_at recording.now track) (R.sector_at recording.now track) cells.now.cells 0)
+        flux.now.times flux.now.indexes cells.now.cells capture clock book.old book.new }
 {
     let mut buffer = SectorBuffer::new();
     let mut from = 0;
@@ -52,8 +57,8 @@ pub(crate) fn gather<R: Recording>(
     }
 }
 
-/// The same by the second rule, as controllers read: a good reading for each of the data of a header of the track's sectors, and a
-/// bad one where it has none. Each other header is noted too.
+/// The same by the second rule, as controllers read: a good reading for each of the data of a header of the track's
+/// sectors, and a bad one where it has none. Each other header is noted too.
 pub(crate) fn gather_as_controller<R: Recording>(
     recording: &R,
     track: TrackId,
@@ -66,11 +71,17 @@ pub(crate) fn gather_as_controller<R: Recording>(
     requires track { R.has_track recording.now track }
     requires cells { AreCellsOf flux.now.times cells.now.cells }
     requires indexes { length flux.now.indexes ≤ 262144 }
-    requires book { IsBookFor (record { first = R.first_sector recording.now; count = R.sectors recording.now track; size = R.sector_size recording.now }) gathered.old.book }
+    requires book { IsBookFor
+        (record { first = R.first_sector recording.now; count = R.sectors recording.now track; size = R.sector_size recording.now })
+        gathered.old.book }
     requires few { gathered.old.book.notes + MOST_READINGS ≤ MOST_NOTES }
     requires few_others { gathered.old.others.notes + MOST_READINGS ≤ MOST_NOTES }
-    ensures readings { Gathers (AreReadByControllers (R.header_at recording.now track) (R.data_at recording.now) cells.now.cells) flux.now.times flux.now.indexes cells.now.cells capture clock gathered.old.book gathered.new.book }
-    ensures others { GathersOthers (R.named_at recording.now) (R.header_at recording.now track) (R.whole_data_of recording.now) flux.now.times flux.now.indexes cells.now.cells capture clock gathered.old.others gathered.new.others }
+    ensures readings { Gathers
+        (AreReadByControllers (R.header_at recording.now track) (R.data_at recording.now) cells.now.cells)
+        flux.now.times flux.now.indexes cells.now.cells capture clock gathered.old.book gathered.new.book }
+    ensures others { GathersOthers (R.named_at recording.now) (R.header_at recording.now track)
+        (R.whole_data_of recording.now) flux.now.times flux.now.indexes cells.now.cells capture clock
+        gathered.old.others gathered.new.others }
     ensures kept { gathered.new.passed ≡ gathered.old.passed }
 {
     data_are_read::<R>();
@@ -99,7 +110,8 @@ struct FoundAt {
     place: Place,
 }
 
-/// Notes a header that is found: what is read of one of the track's sectors, or an other with whether whole data stand after it.
+/// Notes a header that is found: what is read of one of the track's sectors, or an other with
+/// whether whole data stand after it.
 fn note_found<R: Recording>(
     recording: &R,
     cells: &Cells,
@@ -112,7 +124,9 @@ fn note_found<R: Recording>(
     requires some { at.cell < length cells.now.cells }
     requires few { gathered.old.book.notes + length cells.now.cells ≤ MOST_NOTES }
     requires few_others { gathered.old.others.notes < MOST_NOTES }
-    ensures noted { NotesFound (R.data_at recording.now (drop at.cell cells.now.cells)) (R.whole_data_of recording.now (drop at.cell cells.now.cells)) at.found at.place (length cells.now.cells) gathered.old.book gathered.new.book gathered.old.others gathered.new.others }
+    ensures noted { NotesFound (R.data_at recording.now (drop at.cell cells.now.cells))
+        (R.whole_data_of recording.now (drop at.cell cells.now.cells)) at.found at.place (length cells.now.cells)
+        gathered.old.book gathered.new.book gathered.old.others gathered.new.others }
     ensures kept { gathered.new.passed ≡ gathered.old.passed }
 {
     match at.found {
@@ -153,7 +167,8 @@ fn note_header<R: Recording>(
     requires size { book.old.size ≡ R.sector_size recording.now }
     requires some { header.cell < length cells.now.cells }
     requires few { book.old.notes + length cells.now.cells ≤ MOST_NOTES }
-    ensures { NotesHeader (R.data_at recording.now (drop header.cell cells.now.cells)) header.sector header.place (length cells.now.cells) book.old book.new }
+    ensures { NotesHeader (R.data_at recording.now (drop header.cell cells.now.cells)) header.sector header.place
+        (length cells.now.cells) book.old book.new }
 {
     let Some(first) = recording.next_data(cells, header.cell, 0, buffer) else {
         book.note_bad(header.sector, header.place);
@@ -177,7 +192,8 @@ fn note_data<R: Recording>(
     requires within { from ≤ length cells.now.cells }
     requires short { length cells.now.cells ≤ MOST_NOTES }
     requires few { book.old.notes + length cells.now.cells ≤ MOST_NOTES + from }
-    ensures { NotesData (R.data_at recording.now (drop header.cell cells.now.cells)) from header.sector header.place (length cells.now.cells) book.old book.new }
+    ensures { NotesData (R.data_at recording.now (drop header.cell cells.now.cells)) from header.sector header.place
+        (length cells.now.cells) book.old book.new }
 {
     let mut start = from;
     while let Some(place) = recording.next_data(cells, header.cell, start, buffer) {
@@ -186,14 +202,15 @@ fn note_data<R: Recording>(
     }
 }
 
-/// The place of a cell that the clock recovered of the capture. So many ones stand at the places up to it: the last of them is
-/// the transition whose time says in which turn the cell lies.
+/// The place of a cell that the clock recovered of the capture. So many ones stand at the places up to it: the last of
+/// them is the transition whose time says in which turn the cell lies.
 pub fn place_of(flux: &TrackFlux, ones_to: usize, cell: usize, capture: u8, clock: Clock) -> Place
     requires some { 1 ≤ ones_to }
     requires within { ones_to ≤ length flux.now.times }
     requires indexes { length flux.now.indexes ≤ 262144 }
     requires cell { cell < MOST_CELLS }
-    ensures { result ≡ record { capture = capture; clock = clock; turn = turn_at flux.now.indexes (slice_index flux.now.times (ones_to - 1)); cell = cell } }
+    ensures { result
+        ≡ record { capture = capture; clock = clock; turn = turn_at flux.now.indexes (slice_index flux.now.times (ones_to - 1)); cell = cell } }
 {
     let time = flux.times()[ones_to - 1];
     Place {
@@ -210,7 +227,8 @@ pub fn note_reading(book: &mut Book, reading: Reading, place: Place, bytes: &[u8
     requires few { book.old.notes < MOST_NOTES }
     ensures shape { SameShape book.old book.new }
     ensures count { book.new.notes ≤ book.old.notes + 1 }
-    ensures noted { (readings : List NotedReading) → StandsFor book.old readings → StandsFor book.new (readings ++ readings_at place reading bytes.now) }
+    ensures noted { (readings : List NotedReading) → StandsFor book.old readings
+        → StandsFor book.new (readings ++ readings_at place reading bytes.now) }
 {
     match reading {
         Reading::Good { sector } => book.note_good(sector, place, bytes),

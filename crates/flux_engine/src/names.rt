@@ -67,7 +67,8 @@ pub fn take_names<T: NamedStreams<S>, S>(
     requires started { room.old.started < length (tracks room.old.format) }
     requires few { room.old.captures + count_of_clocks clocks ≤ MOST_SOURCES }
     requires room { length room.old.passed < 16 }
-    ensures taken { HasTakenNames (T.gave streams.now source.old source.new track capture) clocks (track_at room.old.format room.old.started) capture room.old room.new }
+    ensures taken { HasTakenNames (T.gave streams.now source.old source.new track capture) clocks
+        (track_at room.old.format room.old.started) capture room.old room.new }
 
     // The room after the call.
     ensures kept { room.new ≡ record room.old {
@@ -119,7 +120,8 @@ fn note_names(
     requires roomy { IsRoomy format tools.old.cells tools.old.gathered.book }
     requires few_others { tools.old.gathered.others.notes + 2 * MOST_READINGS ≤ MOST_NOTES }
     requires room { length tools.old.gathered.passed.items < 16 }
-    ensures noted { HasNotedNames clocks format near capture (seen_next next flux.now) tools.old.gathered.passed.items tools.new.gathered.passed.items tools.old.gathered.others tools.new.gathered.others }
+    ensures noted { HasNotedNames clocks format near capture (seen_next next flux.now) tools.old.gathered.passed.items
+        tools.new.gathered.passed.items tools.old.gathered.others tools.new.gathered.others }
     ensures book { tools.new.gathered.book ≡ tools.old.gathered.book }
     ensures roomy { IsRoomy format tools.new.cells tools.new.gathered.book }
     ensures passed { length tools.new.gathered.passed.items ≤ length tools.old.gathered.passed.items + 1 }
@@ -158,7 +160,8 @@ fn names_by_clocks(
     requires bounded { IsBounded flux.now }
     requires roomy { IsRoomy format tools.old.cells tools.old.gathered.book }
     requires few_others { tools.old.gathered.others.notes + 2 * MOST_READINGS ≤ MOST_NOTES }
-    ensures noted { HasNamesOf clocks format near flux.now.times flux.now.indexes capture tools.old.gathered.others tools.new.gathered.others }
+    ensures noted { HasNamesOf clocks format near flux.now.times flux.now.indexes capture tools.old.gathered.others
+        tools.new.gathered.others }
     ensures book { tools.new.gathered.book ≡ tools.old.gathered.book }
     ensures passed { tools.new.gathered.passed ≡ tools.old.gathered.passed }
     ensures roomy { IsRoomy format tools.new.cells tools.new.gathered.book }
@@ -183,7 +186,8 @@ fn names_by_clock(
     requires bounded { IsBounded flux.now }
     requires roomy { IsRoomy format tools.old.cells tools.old.gathered.book }
     requires few_others { tools.old.gathered.others.notes + MOST_READINGS ≤ MOST_NOTES }
-    ensures noted { HasNamesBy clock format near flux.now.times flux.now.indexes capture tools.old.gathered.others tools.new.gathered.others }
+    ensures noted { HasNamesBy clock format near flux.now.times flux.now.indexes capture tools.old.gathered.others
+        tools.new.gathered.others }
     ensures book { tools.new.gathered.book ≡ tools.old.gathered.book }
     ensures passed { tools.new.gathered.passed ≡ tools.old.gathered.passed }
     ensures roomy { IsRoomy format tools.new.cells tools.new.gathered.book }
@@ -220,7 +224,8 @@ fn gather_names<R: Recording>(
     requires cells { AreCellsOf flux.now.times cells.now.cells }
     requires indexes { length flux.now.indexes ≤ 262144 }
     requires few_others { others.old.notes + MOST_READINGS ≤ MOST_NOTES }
-    ensures { GathersOthers (R.named_at recording.now) no_header (R.whole_data_of recording.now) flux.now.times flux.now.indexes cells.now.cells capture clock others.old others.new }
+    ensures { GathersOthers (R.named_at recording.now) no_header (R.whole_data_of recording.now) flux.now.times
+        flux.now.indexes cells.now.cells capture clock others.old others.new }
 {
     let mut from = 0;
     let mut passed = 0;

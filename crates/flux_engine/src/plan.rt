@@ -17,8 +17,8 @@ pub enum Clocks {
 pub enum Rule {
     /// A header and the data at the first sync after it, whole and unbroken together.
     Strict,
-    /// As disk controllers read: a header, and all whole data up to the next one, each unbroken itself. So a sector that another
-    /// drive wrote again is read.
+    /// As disk controllers read: a header, and all whole data up to the next one, each unbroken itself. So a sector
+    /// that another drive wrote again is read.
     Controller,
 }
 
@@ -33,7 +33,8 @@ pub struct Plan {
     pub naming: Naming,
 }
 
-/// The plan of a disk that is decoded: one stream of each track, by the clock that follows the drive, and lines that name no source.
+/// The plan of a disk that is decoded: one stream of each track, by the clock that follows the drive,
+/// and lines that name no source.
 pub fn decoding_plan() -> Plan
     ensures { result ≡ decoding }
 {
@@ -45,7 +46,8 @@ pub fn decoding_plan() -> Plan
     }
 }
 
-/// The plan of a set: so many streams of each track, by the clock that follows the drive, and lines that name the capture.
+/// The plan of a set: so many streams of each track, by the clock that follows the drive,
+/// and lines that name the capture.
 pub fn set_plan(count: u32) -> Plan
     requires { count ≤ 16 }
     ensures { result ≡ plan_of_set count }

@@ -9,7 +9,8 @@ ghost use Rattle.flux_engine.specs.Counts.{AreCountsBelow};
 ghost use Rattle.flux_engine.specs.Disks.{no_totals};
 ghost use Rattle.flux_engine.specs.LoopProgress.{EndsLoop, HasWritten};
 ghost use Rattle.flux_engine.specs.Needed.{ReadsWhereOpen};
-ghost use Rattle.flux_engine.specs.PlanAnswers.{DecodesPlanned, IsFinished, SaysOfPlannedInput, of_part as of_part_fault};
+ghost use Rattle.flux_engine.specs.PlanAnswers.{DecodesPlanned, IsFinished, SaysOfPlannedInput};
+ghost use Rattle.flux_engine.specs.PlanAnswers.{of_part as of_part_fault};
 ghost use Rattle.flux_engine.specs.PlanProgress.{EndsInTracks, HasPlanned};
 ghost use Rattle.flux_engine.specs.Plans.{EndsInPlan};
 ghost use Rattle.flux_engine.specs.Room.{fresh};
@@ -31,9 +32,9 @@ use kryo_stream::{growth_law, padding_law};
 use sector_images::{sectors_lie_in_images, track_count, tracks_keep_bounds};
 use sector_report::{Totals, total_line, write_line};
 
-/// Decodes all tracks of a disk in order by a plan, and then writes the total line to `notes`. Of each track one verdict for
-/// each sector is given over all readings of its captures by the plan's clocks; its part of the image is written, a piece for
-/// each sector, and then its lines, each in one piece. No answer is for want of memory.
+/// Decodes all tracks of a disk in order by a plan, and then writes the total line to `notes`. Of each track one
+/// verdict for each sector is given over all readings of its captures by the plan's clocks; its part of the image is
+/// written, a piece for each sector, and then its lines, each in one piece. No answer is for want of memory.
 ///
 /// What stands after the last stream is not looked at. After a fault nothing more is read or written, and
 /// the tracks before are written whole. `Refused` names the first stream with a fault.
@@ -46,18 +47,25 @@ pub fn decode_planned<S: Source, W: Sink, N: Sink>(
 ) -> Result<Totals, PlanFault>
     requires fresh { room.old ≡ fresh room.old.format }
     requires few { plan.captures ≤ 16 }
-    ensures decoded { DecodesPlanned plan (part_by plan.naming) room.old.format (S.left source.old) (S.left source.new) (W.written image.old) (W.written image.new) (N.written notes.old) (N.written notes.new) result }
-    ensures told { (bytes : List ℕ) → S.left source.old ≡ Some bytes → SaysOfPlannedInput plan (part_by plan.naming) room.old.format bytes (S.left source.new) (W.written image.old) (W.written image.new) (N.written notes.old) (N.written notes.new) result }
+    ensures decoded { DecodesPlanned plan (part_by plan.naming) room.old.format (S.left source.old) (S.left source.new)
+        (W.written image.old) (W.written image.new) (N.written notes.old) (N.written notes.new) result }
+    ensures told { (bytes : List ℕ) → S.left source.old ≡ Some bytes
+        → SaysOfPlannedInput plan (part_by plan.naming) room.old.format bytes (S.left source.new) (W.written image.old)
+        (W.written image.new) (N.written notes.old) (N.written notes.new) result }
 
     // A source that tells its bytes is read only where those that it gave before end inside a stream.
-    ensures needed { (bytes : List ℕ) → S.left source.old ≡ Some bytes → ReadsWhereOpen (EndsInPlan plan room.old.format) (reads_at S.Source source.old) (reads_at S.Source source.new) }
+    ensures needed { (bytes : List ℕ) → S.left source.old ≡ Some bytes
+        → ReadsWhereOpen (EndsInPlan plan room.old.format) (reads_at S.Source source.old)
+        (reads_at S.Source source.new) }
 
     ensures blames { CountsBy (plan_blame result)
         (counts_at S.Source W.Sink N.Sink source.old image.old notes.old)
         (counts_at S.Source W.Sink N.Sink source.new image.new notes.new) }
 
     // Over a source and sinks that do not fail there is no other answer.
-    ensures complete { Stayed (S.faults source.old) (S.faults source.new) → Stayed (W.faults image.old) (W.faults image.new) → Stayed (N.faults notes.old) (N.faults notes.new) → IsFinished result }
+    ensures complete { Stayed (S.faults source.old) (S.faults source.new)
+        → Stayed (W.faults image.old) (W.faults image.new) → Stayed (N.faults notes.old) (N.faults notes.new)
+        → IsFinished result }
 {
     let writer = ImageAndReport {
         naming: plan.naming,
@@ -73,8 +81,8 @@ pub fn decode_planned<S: Source, W: Sink, N: Sink>(
     }
 }
 
-/// Decodes all tracks of a disk in order by a plan, where its streams follow one another in a source, writes what each comes to, and
-/// adds up the totals of those that were written whole. No answer is for want of memory.
+/// Decodes all tracks of a disk in order by a plan, where its streams follow one another in a source, writes what each
+/// comes to, and adds up the totals of those that were written whole. No answer is for want of memory.
 ///
 /// After a fault nothing more is read or written. `Refused` names the first stream with a fault.
 pub fn decode_planned_tracks<O: TrackWriter, S: Source, W: Sink, N: Sink>(
@@ -89,9 +97,16 @@ pub fn decode_planned_tracks<O: TrackWriter, S: Source, W: Sink, N: Sink>(
     requires none { totals.old ≡ no_totals }
     requires fresh { room.old ≡ fresh room.old.format }
     requires few { plan.captures ≤ 16 }
-    ensures ok { OnOk result (HasPlanned plan (O.part_of writer.now) room.old.format (S.left source.old) (S.left source.new) (W.written image.old) (W.written image.new) (N.written notes.old) (N.written notes.new) room.new (length (tracks room.old.format)) totals.new) }
-    ensures needed { (bytes : List ℕ) → S.left source.old ≡ Some bytes → ReadsWhereOpen (EndsInPlan plan room.old.format) (reads_at S.Source source.old) (reads_at S.Source source.new) }
-    ensures err { OnErr result (EndsInTracks plan (O.part_of writer.now) room.old.format (S.left source.old) (S.left source.new) (W.written image.old) (W.written image.new) (N.written notes.old) (N.written notes.new) totals.new result) }
+    ensures ok { OnOk result
+        (HasPlanned plan (O.part_of writer.now) room.old.format (S.left source.old) (S.left source.new)
+        (W.written image.old) (W.written image.new) (N.written notes.old) (N.written notes.new) room.new
+        (length (tracks room.old.format)) totals.new) }
+    ensures needed { (bytes : List ℕ) → S.left source.old ≡ Some bytes
+        → ReadsWhereOpen (EndsInPlan plan room.old.format) (reads_at S.Source source.old)
+        (reads_at S.Source source.new) }
+    ensures err { OnErr result
+        (EndsInTracks plan (O.part_of writer.now) room.old.format (S.left source.old) (S.left source.new)
+        (W.written image.old) (W.written image.new) (N.written notes.old) (N.written notes.new) totals.new result) }
     ensures blames { CountsBy (plan_blame result)
         (counts_at S.Source W.Sink N.Sink source.old image.old notes.old)
         (counts_at S.Source W.Sink N.Sink source.new image.new notes.new) }
@@ -110,8 +125,8 @@ pub fn decode_planned_tracks<O: TrackWriter, S: Source, W: Sink, N: Sink>(
     )
 }
 
-/// Decodes all tracks of a disk in order by a plan, wherever its streams come from, writes what each comes to, and adds up the
-/// totals of those that were written whole. No answer is for want of memory.
+/// Decodes all tracks of a disk in order by a plan, wherever its streams come from, writes what each comes to, and adds
+/// up the totals of those that were written whole. No answer is for want of memory.
 ///
 /// After a fault nothing more is read or written. `Refused` names the stream that ended the disk.
 pub fn decode_tracks<T: TrackStreams<S>, O: TrackWriter, S, W: Sink, N: Sink>(
@@ -127,8 +142,15 @@ pub fn decode_tracks<T: TrackStreams<S>, O: TrackWriter, S, W: Sink, N: Sink>(
     requires none { totals.old ≡ no_totals }
     requires fresh { room.old ≡ fresh room.old.format }
     requires few { plan.captures ≤ 16 }
-    ensures ok { OnOk result (HasWritten plan (O.part_of writer.now) room.old.format (T.came streams.now plan room.old.format source.old source.new) (W.written image.old) (W.written image.new) (N.written notes.old) (N.written notes.new) room.new (length (tracks room.old.format)) totals.new) }
-    ensures err { IfErr result (EndsLoop plan (O.part_of writer.now) room.old.format (T.came streams.now plan room.old.format source.old source.new) (T.ended streams.now plan room.old.format source.old source.new) (W.written image.old) (W.written image.new) (N.written notes.old) (N.written notes.new) room.new totals.new) }
+    ensures ok { OnOk result
+        (HasWritten plan (O.part_of writer.now) room.old.format
+        (T.came streams.now plan room.old.format source.old source.new) (W.written image.old) (W.written image.new)
+        (N.written notes.old) (N.written notes.new) room.new (length (tracks room.old.format)) totals.new) }
+    ensures err { IfErr result
+        (EndsLoop plan (O.part_of writer.now) room.old.format
+        (T.came streams.now plan room.old.format source.old source.new)
+        (T.ended streams.now plan room.old.format source.old source.new) (W.written image.old) (W.written image.new)
+        (N.written notes.old) (N.written notes.new) room.new totals.new) }
 
     // What was counted, so that tracks behind the last one can be counted too.
     ensures few { OnOk result (AreCountsBelow room.new (length (tracks room.old.format))) }

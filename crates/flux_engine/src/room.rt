@@ -47,7 +47,8 @@ pub struct DiskRoom {
     pub(crate) unread: u32,
     /// Those of them whose files failed.
     pub(crate) lost: u32,
-    /// The names that are told of other headers of these tracks, and one for each track where data follow a name that is not told.
+    /// The names that are told of other headers of these tracks, and one for each track where data
+    /// follow a name that is not told.
     pub(crate) told_others: u32,
     /// Those of them that have whole data.
     pub(crate) whole_others: u32,
@@ -76,7 +77,9 @@ impl Model for DiskRoom {
       failed = a.failed;
     } };
 
-    ghost invariant = { λ a. IsRoomy a.format a.tools.cells a.tools.gathered.book × IsStarted a.format a.started a.captures a.tools.gathered.book a.tools.gathered.others };
+    ghost invariant = { λ a.
+        IsRoomy a.format a.tools.cells a.tools.gathered.book
+        × IsStarted a.format a.started a.captures a.tools.gathered.book a.tools.gathered.others };
 }
 
 impl DiskRoom {
@@ -104,8 +107,8 @@ impl DiskRoom {
         })
     }
 
-    /// Begins anew, for a disk of another format, as after `reserve` for it: all that came before is forgotten. The book is one for
-    /// that format's tracks. No memory is taken.
+    /// Begins anew, for a disk of another format, as after `reserve` for it: all that came before is forgotten. The
+    /// book is one for that format's tracks. No memory is taken.
     pub fn begin_format(&mut self, format: Format, book: Book)
         requires { book ≡ empty_book format }
         ensures { self.new ≡ fresh format }
@@ -140,8 +143,8 @@ impl DiskRoom {
         self.lost
     }
 
-    /// How many names are told of headers that name none of their track's sectors, of all tracks whose captures were read. The names
-    /// of a track that are not told count as one where whole data stand after one of their headers.
+    /// How many names are told of headers that name none of their track's sectors, of all tracks whose captures were
+    /// read. The names of a track that are not told count as one where whole data stand after one of their headers.
     pub fn told_others(&self) -> u32
         ensures { result ≡ self.now.told_others }
     {
@@ -193,7 +196,8 @@ impl Tools {
         ensures started { IfOk result (λ tools. IsStarted format 0 0 tools.gathered.book tools.gathered.others) }
         ensures empty { IfOk result (λ tools. tools.gathered.book ≡ empty_book format) }
         ensures none { IfOk result (λ tools. tools.gathered.passed.items ≡ []) }
-        ensures no_others { IfOk result (λ tools. tools.gathered.others ≡ record { notes = 0; told = []; untold = false }) }
+        ensures no_others { IfOk result
+            (λ tools. tools.gathered.others ≡ record { notes = 0; told = []; untold = false }) }
     {
         let clock = Loop::new(alloc)?;
         let mut cells = Cells::new(alloc);

@@ -27,8 +27,8 @@ use index_turns::TrackFlux;
 use kryo_stream::CaptureFault;
 use sector_images::{Format, track_id, tracks_keep_bounds};
 
-/// Reads all captures of a track: the next streams, so many. Their readings are gathered, which of them were passed over,
-/// and the headers that name none of its sectors.
+/// Reads all captures of a track: the next streams, so many. Their readings are gathered, which of them were passed
+/// over, and the headers that name none of its sectors.
 pub(crate) fn read_captures<T: TrackStreams<S>, S>(
     plan: Plan,
     streams: &T,
@@ -42,7 +42,8 @@ pub(crate) fn read_captures<T: TrackStreams<S>, S>(
     requires counted { AreCountsBelow room.old number }
     ensures read { (start : S) (before : List Seen) → length before ≡ number * plan.captures → AreWhole before
         → T.came streams.now plan room.old.format start source.old room.old.held room.old.used before
-        → GathersTrack plan room.old.format number (T.came streams.now plan room.old.format start source.new) (T.ended streams.now plan room.old.format start source.new) before room.new result }
+        → GathersTrack plan room.old.format number (T.came streams.now plan room.old.format start source.new)
+        (T.ended streams.now plan room.old.format start source.new) before room.new result }
     ensures format { room.new.format ≡ room.old.format }
     ensures started { room.new.started ≡ number }
     ensures sound { OnOk result (room.new.failed ≡ false) }
@@ -73,8 +74,9 @@ pub(crate) fn read_captures<T: TrackStreams<S>, S>(
     Ok(())
 }
 
-/// Takes the next stream of the started track, as one more that captures it, and notes all its readings by the rule and these
-/// clocks after those before, as those of this capture, or that it was passed over. No answer is for want of memory.
+/// Takes the next stream of the started track, as one more that captures it, and notes all its readings by
+/// the rule and these clocks after those before, as those of this capture, or that it was passed over. No
+/// answer is for want of memory.
 ///
 /// It counts once for each clock among the at most 32 streams of a track, and a room is not used again after a fault.
 fn take_next<T: TrackStreams<S>, S>(
@@ -90,9 +92,12 @@ fn take_next<T: TrackStreams<S>, S>(
     requires few { room.old.captures + count_of_clocks clocks ≤ MOST_SOURCES }
     requires room { length room.old.passed < 16 }
     requires sound { room.old.failed ≡ false }
-    ensures taken { (plan : Plan) (start : S) (before : List Seen) → capture < plan.captures → length before ≡ number * plan.captures + capture
+    ensures taken { (plan : Plan) (start : S) (before : List Seen) → capture < plan.captures
+        → length before ≡ number * plan.captures + capture
         → T.came streams.now plan room.old.format start source.old room.old.held room.old.used before
-        → TakesNext (T.came streams.now plan room.old.format start source.new) (T.ended streams.now plan room.old.format start source.new) rule clocks room.old.format (track_at room.old.format number) capture before room.old room.new result }
+        → TakesNext (T.came streams.now plan room.old.format start source.new)
+        (T.ended streams.now plan room.old.format start source.new) rule clocks room.old.format
+        (track_at room.old.format number) capture before room.old room.new result }
 
     // The room after the call.
     ensures format { room.new.format ≡ room.old.format }
@@ -145,7 +150,9 @@ fn note_next(
     requires few { tools.old.gathered.book.notes + 2 * MOST_READINGS ≤ MOST_NOTES }
     requires few_others { tools.old.gathered.others.notes + 2 * MOST_READINGS ≤ MOST_NOTES }
     requires room { length tools.old.gathered.passed.items < 16 }
-    ensures noted { HasNotedNext next rule clocks format track flux.now capture tools.old.gathered.book tools.new.gathered.book tools.old.gathered.passed.items tools.new.gathered.passed.items tools.old.gathered.others tools.new.gathered.others }
+    ensures noted { HasNotedNext next rule clocks format track flux.now capture tools.old.gathered.book
+        tools.new.gathered.book tools.old.gathered.passed.items tools.new.gathered.passed.items
+        tools.old.gathered.others tools.new.gathered.others }
     ensures roomy { IsRoomy format tools.new.cells tools.new.gathered.book }
     ensures passed { length tools.new.gathered.passed.items ≤ length tools.old.gathered.passed.items + 1 }
 {

@@ -28,9 +28,9 @@ pub enum PartFault {
     NotesFault,
 }
 
-/// Writes what the readings of a track come to: its part of the image, a piece for each sector,
-/// in the order of their places there, and then its lines by the sectors' numbers, each in one piece, with so much of each source
-/// named. Gives its totals.
+/// Writes what the readings of a track come to: its part of the image, a piece for each sector, in the order of
+/// their places there, and then its lines by the sectors' numbers, each in one piece, with so much of each
+/// source named. Gives its totals.
 pub fn write_part<W: Sink, N: Sink>(
     naming: Naming,
     format: Format,
@@ -42,7 +42,8 @@ pub fn write_part<W: Sink, N: Sink>(
     requires track { IsTrack format track }
     requires known { Knows (sectors_in format track) book.now }
     ensures wrote { (readings : List NotedReading) → StandsFor book.now readings
-        → WritesPart (named_part naming format track readings) (W.written image.old) (W.written image.new) (N.written notes.old) (N.written notes.new) result }
+        → WritesPart (named_part naming format track readings) (W.written image.old) (W.written image.new)
+        (N.written notes.old) (N.written notes.new) result }
     ensures sum { IfOk result IsSum }
     ensures few { IfOk result (λ totals. totals.sectors ≤ 100) }
     ensures blames { CountsBy (part_blame result)

@@ -28,7 +28,8 @@ pub enum NextStream {
     PassedOver(Passed),
 }
 
-/// Where the streams of a disk's tracks come from: how each of them is taken from an object of the outside, or passed over.
+/// Where the streams of a disk's tracks come from: how each of them is taken from an object
+/// of the outside, or passed over.
 ///
 /// The ghost members are what is known of the object from one moment to another.
 pub trait TrackStreams<S> {
@@ -40,8 +41,8 @@ pub trait TrackStreams<S> {
     /// From one moment to another these streams came, and the next one ended the disk with this fault.
     ghost ended: { Self → Plan → Format → S → S → List Seen → CaptureFault → Type 0 };
 
-    /// Reads the next stream: a capture of a track of the format, both by their numbers from 0. It may be passed over, and
-    /// after a fault there is no next one. No memory is taken.
+    /// Reads the next stream: a capture of a track of the format, both by their numbers from 0. It may be passed over,
+    /// and after a fault there is no next one. No memory is taken.
     fn next_stream(
         &self,
         format: Format,
@@ -51,13 +52,16 @@ pub trait TrackStreams<S> {
         stream: &mut StreamRoom,
     ) -> Result<NextStream, CaptureFault>
         requires track { number < length (tracks format) }
-        ensures next { (plan : Plan) (start : S) (before : List Seen) → capture < plan.captures → length before ≡ number * plan.captures + capture
+        ensures next { (plan : Plan) (start : S) (before : List Seen) → capture < plan.captures
+            → length before ≡ number * plan.captures + capture
             → came self.now plan format start source.old stream.old.held stream.old.used before
-            → GivesNext (came self.now plan format start source.new stream.new.held stream.new.used) (ended self.now plan format start source.new) before stream.new.flux result }
+            → GivesNext (came self.now plan format start source.new stream.new.held stream.new.used)
+            (ended self.now plan format start source.new) before stream.new.flux result }
         ensures bounded { IfOk result (λ next. IsBoundedNext next stream.new.flux) };
 
     /// At first none came.
-    ghost begins: { (streams : Self) (plan : Plan) (format : Format) (now : S) → came streams plan format now now [] false [] };
+    ghost begins: { (streams : Self) (plan : Plan) (format : Format) (now : S)
+        → came streams plan format now now [] false [] };
 }
 
 /// The streams follow one another in a source: the captures of the first track, and then those of the next one. None is
@@ -66,9 +70,13 @@ pub trait TrackStreams<S> {
 pub struct OneAfterAnother;
 
 impl<S: Source> TrackStreams<S> for OneAfterAnother {
-    ghost came = { λ streams plan format start now held used before. HaveComeCounted plan format (reads_at S.Source start) (reads_at S.Source now) (source_counts S.Source start) (source_counts S.Source now) held used before };
+    ghost came = { λ streams plan format start now held used before.
+        HaveComeCounted plan format (reads_at S.Source start) (reads_at S.Source now) (source_counts S.Source start)
+        (source_counts S.Source now) held used before };
 
-    ghost ended = { λ streams plan format start now before fault. HaveEndedCounted plan format (reads_at S.Source start) (reads_at S.Source now) (source_counts S.Source start) (source_counts S.Source now) before fault };
+    ghost ended = { λ streams plan format start now before fault.
+        HaveEndedCounted plan format (reads_at S.Source start) (reads_at S.Source now) (source_counts S.Source start)
+        (source_counts S.Source now) before fault };
 
     fn next_stream(
         &self,
@@ -84,5 +92,6 @@ impl<S: Source> TrackStreams<S> for OneAfterAnother {
         }
     }
 
-    ghost begins = { λ streams plan format now. (none_came plan format (reads_at S.Source now), Counts-none (source_counts S.Source now)) };
+    ghost begins = { λ streams plan format now.
+        (none_came plan format (reads_at S.Source now), Counts-none (source_counts S.Source now)) };
 }

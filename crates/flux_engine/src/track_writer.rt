@@ -20,7 +20,8 @@ use flux_base::{Sink, TrackId};
 use sector_images::Format;
 use sector_report::{Naming, Totals};
 
-/// What becomes of a track's verdicts, of its streams that were passed over and of other headers: bytes for two sinks, `image` and `notes`.
+/// What becomes of a track's verdicts, of its streams that were passed over and of other headers: bytes for
+/// two sinks, `image` and `notes`.
 pub trait TrackWriter {
     /// What a track comes to by what was gathered of it: the bytes for either sink, and the track's totals.
     ghost part_of: { Self → PartOf };
@@ -36,8 +37,10 @@ pub trait TrackWriter {
     ) -> Result<Totals, PartFault>
         requires track { IsTrack format track }
         requires known { Knows (sectors_in format track) gathered.now.book }
-        ensures wrote { (readings : List NotedReading) (others : List NotedOther) → StandsFor gathered.now.book readings → OthersStandFor gathered.now.others others
-            → WritesPart (part_of self.now format track (track_notes readings gathered.now.passed.items others)) (W.written image.old) (W.written image.new) (N.written notes.old) (N.written notes.new) result }
+        ensures wrote { (readings : List NotedReading) (others : List NotedOther) → StandsFor gathered.now.book readings
+            → OthersStandFor gathered.now.others others
+            → WritesPart (part_of self.now format track (track_notes readings gathered.now.passed.items others))
+            (W.written image.old) (W.written image.new) (N.written notes.old) (N.written notes.new) result }
         ensures sum { IfOk result IsSum }
         ensures few { IfOk result (λ totals. totals.sectors ≤ 100) }
         ensures blames { CountsBy (part_blame result)

@@ -1,6 +1,9 @@
 //! What the streams of a track come to, those that are written and those that a drive gives.
 
-ghost use Rattle.flux_engine.specs.Captures.{CapturesAreErasedCaptures, CapturesAreRecovered, ErasedCapturesAreRecovered, ImagesHaveRings, SteadyCapturesAreRecovered, SteadyErasedCapturesAreRecovered, WrittenRingsAreRecovered, WritesCaptures, WritesSteadyCaptures};
+ghost use Rattle.flux_engine.specs.Captures.{CapturesAreErasedCaptures, CapturesAreRecovered};
+ghost use Rattle.flux_engine.specs.Captures.{ErasedCapturesAreRecovered, ImagesHaveRings, SteadyCapturesAreRecovered};
+ghost use Rattle.flux_engine.specs.Captures.{SteadyErasedCapturesAreRecovered, WrittenRingsAreRecovered};
+ghost use Rattle.flux_engine.specs.Captures.{WritesCaptures, WritesSteadyCaptures};
 
 use disk_recordings::tracks_have_rings;
 use flux_writer::track_law;
@@ -27,8 +30,8 @@ pub fn images_have_rings()
 }
 
 /// From a capture of a track's ring the ring's cells are recovered, from the first place to the last, over two turns or
-/// more. Where parts of the track are erased, the cells are those of the pieces, with 31 zeros between two. So the ring's
-/// cells are recovered from each stream that is written of an image.
+/// more. Where parts of the track are erased, the cells are those of the pieces, with 31 zeros between two. So the
+/// ring's cells are recovered from each stream that is written of an image.
 pub fn captures_are_recovered()
     ensures captures { CapturesAreRecovered }
     ensures erased { ErasedCapturesAreRecovered }
@@ -42,8 +45,8 @@ pub fn captures_are_recovered()
     streams_are_captures()
 }
 
-/// Where besides the drive keeps its speed, either clock recovers these cells, the one that follows the drive and the one that
-/// holds the mean cell of the first turn. The stream of each track of an image is a capture of such a drive.
+/// Where besides the drive keeps its speed, either clock recovers these cells, the one that follows the drive and the
+/// one that holds the mean cell of the first turn. The stream of each track of an image is a capture of such a drive.
 pub fn steady_captures_are_recovered()
     ensures captures { SteadyCapturesAreRecovered }
     ensures erased { SteadyErasedCapturesAreRecovered }

@@ -1,6 +1,7 @@
 //! What a track comes to, written out.
 
-ghost use Rattle.std.specs.Prelude.{◌≡◌, ◌+◌, ◌≤◌, ◌<◌, ◌++◌, List, [], ◌∷◌, map, replicate, unwrap_or, is_err, IfOk, OnOk, OnErr};
+ghost use Rattle.std.specs.Prelude.{◌≡◌, ◌+◌, ◌≤◌, ◌<◌, ◌++◌, List, [], ◌∷◌, map, replicate, unwrap_or, is_err, IfOk};
+ghost use Rattle.std.specs.Prelude.{OnOk, OnErr};
 ghost use Rattle.std.specs.Io.KnownBytes.{Appends};
 ghost use Rattle.flux_base.specs.Bounds.{MOST_SECTOR_BYTES};
 ghost use Rattle.flux_base.specs.Counts.{Counts};
@@ -32,8 +33,12 @@ pub fn write_image<W: Sink>(
 ) -> Result<(), Failed>
     requires track { IsTrack format track }
     requires known { Knows (sectors_in format track) book.now }
-    ensures ok { OnOk result ((readings : List NotedReading) → StandsFor book.now readings → Appends (W.written image.old) (W.written image.new) (image_of format track readings)) }
-    ensures err { OnErr result ((readings : List NotedReading) → StandsFor book.now readings → AppendsPart (W.written image.old) (W.written image.new) (image_of format track readings)) }
+    ensures ok { OnOk result
+        ((readings : List NotedReading) → StandsFor book.now readings
+        → Appends (W.written image.old) (W.written image.new) (image_of format track readings)) }
+    ensures err { OnErr result
+        ((readings : List NotedReading) → StandsFor book.now readings
+        → AppendsPart (W.written image.old) (W.written image.new) (image_of format track readings)) }
     ensures counts { Counts (is_err result) (sink_counts W.Sink image.old) (sink_counts W.Sink image.new) }
 {
     tracks_keep_bounds();
@@ -53,7 +58,8 @@ pub fn write_image<W: Sink>(
 fn image_bytes<'a>(book: &'a Book, sector: u8, size: u16) -> &'a [u8]
     requires known { IsKnown book.now sector }
     requires size { size ≤ MOST_SECTOR_BYTES }
-    ensures { (readings : List NotedReading) → StandsFor book.now readings → result.now ≡ unwrap_or (agreed readings sector) (replicate size 0) }
+    ensures { (readings : List NotedReading) → StandsFor book.now readings
+        → result.now ≡ unwrap_or (agreed readings sector) (replicate size 0) }
 {
     match book.bytes(sector) {
         Some(bytes) => bytes,
@@ -72,10 +78,17 @@ pub fn write_lines<N: Sink>(
     requires cylinder { track.cylinder < 100 }
     requires few { AreFew sectors }
     requires known { Knows sectors book.now }
-    ensures ok { OnOk result ((readings : List NotedReading) → StandsFor book.now readings → Appends (N.written notes.old) (N.written notes.new) (lines_by naming track sectors readings)) }
+    ensures ok { OnOk result
+        ((readings : List NotedReading) → StandsFor book.now readings
+        → Appends (N.written notes.old) (N.written notes.new) (lines_by naming track sectors readings)) }
     ensures counted { IfOk result (λ totals. IsSum totals × (totals.sectors ≡ sectors.count)) }
-    ensures totals { IfOk result (λ totals. (readings : List NotedReading) → StandsFor book.now readings → totals ≡ totals_of (map (verdict_over readings) (numbers sectors))) }
-    ensures err { OnErr result ((readings : List NotedReading) → StandsFor book.now readings → AppendsPart (N.written notes.old) (N.written notes.new) (lines_by naming track sectors readings)) }
+    ensures totals { IfOk result
+        (λ totals.
+        (readings : List NotedReading) → StandsFor book.now readings
+        → totals ≡ totals_of (map (verdict_over readings) (numbers sectors))) }
+    ensures err { OnErr result
+        ((readings : List NotedReading) → StandsFor book.now readings
+        → AppendsPart (N.written notes.old) (N.written notes.new) (lines_by naming track sectors readings)) }
     ensures counts { Counts (is_err result) (sink_counts N.Sink notes.old) (sink_counts N.Sink notes.new) }
 {
     let mut totals = no_totals();
@@ -111,7 +124,8 @@ pub fn count_verdict(totals: &mut Totals, verdict: Verdict)
     requires few { totals.old.sectors < 1000 }
     ensures sum { IsSum totals.new }
     ensures one { totals.new.sectors ≡ totals.old.sectors + 1 }
-    ensures counted { (verdicts : List SectorVerdict) → totals.old ≡ totals_of verdicts → totals.new ≡ totals_of (verdicts ++ verdict ∷ []) }
+    ensures counted { (verdicts : List SectorVerdict) → totals.old ≡ totals_of verdicts
+        → totals.new ≡ totals_of (verdicts ++ verdict ∷ []) }
 {
     totals.sectors += 1;
     match verdict {

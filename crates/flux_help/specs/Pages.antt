@@ -5,7 +5,8 @@ use Rattle.sector_images.specs.Formats.{formats, row}
 use Rattle.sector_images.specs.declared.format.Format.{Format}
 use Rattle.sector_images.specs.declared.format.Format.TheVariants.{Ibm3740, Ibm360, Ibm720, Ibm1440}
 use Rattle.sector_images.specs.declared.format.Format.TheVariants.{Amiga, AmigaHd, C1541}
-use Rattle.sector_images.specs.declared.format.Format.TheVariants.{C1541Forty, C1571, C8050, C8250, C1581, AppleDo}
+use Rattle.sector_images.specs.declared.format.Format.TheVariants.{C1541Forty, C1571, C8050, C8250}
+use Rattle.sector_images.specs.declared.format.Format.TheVariants.{C1581, AppleDo}
 use Rattle.sector_images.specs.declared.format.Format.TheVariants.{ApplePo, AppleDos33, AppleProdos}
 use Rattle.sector_images.specs.declared.format.Format.TheVariants.{Mac400, Mac800, Numbered}
 use Rattle.flux_help.specs.Verbs.{verb_texts, verbs}

@@ -5,7 +5,9 @@ use Rattle.sector_images.specs.declared.format.Format.{Format}
 use Rattle.flux_words.specs.DumpWords.{Asked as AskedDumps, asked_of as asked_dumps}
 use Rattle.flux_words.specs.SectorWords.{AskedSector, asked_sector}
 use Rattle.flux_words.specs.declared.commands.Command.{Command}
-use Rattle.flux_words.specs.declared.commands.Command.TheVariants.{Turns, Streams, Folder, Dumps, Sector, Identify, Write, Trial, ToG64, FromG64, Tell}
+use Rattle.flux_words.specs.declared.commands.Command.TheVariants.{Turns, Streams, Folder, Dumps}
+use Rattle.flux_words.specs.declared.commands.Command.TheVariants.{Sector, Identify, Write, Trial}
+use Rattle.flux_words.specs.declared.commands.Command.TheVariants.{ToG64, FromG64, Tell}
 use Rattle.flux_words.specs.declared.commands.StreamsAsked.{StreamsAsked}
 use Rattle.flux_words.specs.declared.g64_disk.G64Disk.{G64Disk}
 

@@ -4,10 +4,15 @@ use Rattle.flux_help.specs.Verbs.{verb_of}
 use Rattle.flux_help.specs.declared.page.Page.{Page}
 use Rattle.flux_help.specs.declared.page.Page.TheVariants.{Help as AllPages, Version, About}
 use Rattle.flux_help.specs.declared.verb.Verb.{Verb}
-use Rattle.flux_help.specs.declared.verb.Verb.TheVariants.{Identify, Read, Show, DecodeFolder, DecodeSet, Rescue, Decode, Report, Map, Write, Turns, ToG64, FromG64, Trial, Help}
+use Rattle.flux_help.specs.declared.verb.Verb.TheVariants.{Identify, Read, Show, DecodeFolder}
+use Rattle.flux_help.specs.declared.verb.Verb.TheVariants.{DecodeSet, Rescue, Decode, Report, Map}
+use Rattle.flux_help.specs.declared.verb.Verb.TheVariants.{Write, Turns, ToG64, FromG64, Trial}
+use Rattle.flux_help.specs.declared.verb.Verb.TheVariants.{Help}
 use Rattle.sector_images.specs.Formats.{IsWordOfFormat}
 use Rattle.sector_images.specs.declared.format.Format.{Format}
-use Rattle.flux_words.specs.Asked.{Asked, the_turns, some_streams, a_folder, some_dumps, a_sector, an_identity, written_streams, a_trial, a_g64_file, an_image_of_g64, a_page}
+use Rattle.flux_words.specs.Asked.{Asked, the_turns, some_streams, a_folder, some_dumps, a_sector}
+use Rattle.flux_words.specs.Asked.{an_identity, written_streams, a_trial, a_g64_file}
+use Rattle.flux_words.specs.Asked.{an_image_of_g64, a_page}
 use Rattle.flux_words.specs.Counts.{IsCount}
 use Rattle.flux_words.specs.DumpParts.{AreWordsBehind}
 use Rattle.flux_words.specs.DumpWords.{Asked as AskedDumps, CanBeRead}
@@ -15,7 +20,8 @@ use Rattle.flux_words.specs.G64Disks.{format_of}
 use Rattle.flux_words.specs.SectorWords.{AskedSector, NamesBehind}
 use Rattle.flux_words.specs.Seeds.{IsSeed}
 use Rattle.flux_words.specs.declared.commands.Output.{Output}
-use Rattle.flux_words.specs.declared.commands.Output.TheVariants.{ImageAndReport, ReportAlone, Picture}
+use Rattle.flux_words.specs.declared.commands.Output.TheVariants.{ImageAndReport, ReportAlone}
+use Rattle.flux_words.specs.declared.commands.Output.TheVariants.{Picture}
 use Rattle.flux_words.specs.declared.commands.Way.{Way}
 use Rattle.flux_words.specs.declared.commands.Way.TheVariants.{Once, Often, ByBothClocks}
 use Rattle.flux_words.specs.declared.g64_disk.G64Disk.{G64Disk}
@@ -26,14 +32,16 @@ IsFormat format others = (word : List ℕ) × (others ≡ word ∷ []) × IsWord
 
 -- and a last one
 abbrev pub IsFormatWith : Format → (last : List ℕ) → (others : List (List ℕ)) → Type 0
-IsFormatWith format last others = (word : List ℕ) × (others ≡ word ∷ last ∷ []) × IsWordOfFormat word format
+IsFormatWith format last others =
+    (word : List ℕ) × (others ≡ word ∷ last ∷ []) × IsWordOfFormat word format
 
 -- a disk's streams, read in this way, to this output
 abbrev pub streams_of : Way → Output → Format → Asked
 streams_of way output format = some_streams (record { format = format; way = way; output = output })
 
 abbrev pub AreStreams : Way → Output → (others : List (List ℕ)) → Asked → Type 0
-AreStreams way output others asked = (format : Format) × IsFormat format others × (asked ≡ streams_of way output format)
+AreStreams way output others asked =
+    (format : Format) × IsFormat format others × (asked ≡ streams_of way output format)
 
 -- What the words behind a verb's ask for. A count or a seed may have zeros before it.
 abbrev pub AreBehind : Verb → (others : List (List ℕ)) → Asked → Type 0
@@ -43,24 +51,33 @@ AreBehind Report others asked = AreStreams Once ReportAlone others asked
 AreBehind Map others asked = AreStreams Once Picture others asked
 AreBehind Rescue others asked = AreStreams ByBothClocks ImageAndReport others asked
 AreBehind DecodeSet others asked =
-    (format : Format) × (number : List ℕ) × (count : ℕ) × IsFormatWith format number others × IsCount count number
+    (format : Format) × (number : List ℕ) × (count : ℕ) × IsFormatWith format number others
+    × IsCount count number
     × (asked ≡ streams_of (Often count) ImageAndReport format)
 AreBehind DecodeFolder others asked =
     (format : Format) × (folder : List ℕ) × IsFormatWith format folder others × (folder ≢ [])
     × (asked ≡ a_folder format folder)
 AreBehind Read others asked =
-    (dumps : AskedDumps) × AreWordsBehind dumps others × CanBeRead dumps × (asked ≡ some_dumps dumps)
-AreBehind Show others asked = (sector : AskedSector) × NamesBehind others (Some sector) × (asked ≡ a_sector sector)
-AreBehind Identify others asked = (dump : List ℕ) × (others ≡ dump ∷ []) × (dump ≢ []) × (asked ≡ an_identity dump)
-AreBehind Write others asked = (format : Format) × IsFormat format others × (asked ≡ written_streams format)
+    (dumps : AskedDumps) × AreWordsBehind dumps others × CanBeRead dumps
+    × (asked ≡ some_dumps dumps)
+AreBehind Show others asked =
+    (sector : AskedSector) × NamesBehind others (Some sector) × (asked ≡ a_sector sector)
+AreBehind Identify others asked =
+    (dump : List ℕ) × (others ≡ dump ∷ []) × (dump ≢ []) × (asked ≡ an_identity dump)
+AreBehind Write others asked =
+    (format : Format) × IsFormat format others × (asked ≡ written_streams format)
 AreBehind Trial others asked =
-    (format : Format) × (number : List ℕ) × (seed : ℕ) × IsFormatWith format number others × IsSeed seed number
+    (format : Format) × (number : List ℕ) × (seed : ℕ) × IsFormatWith format number others
+    × IsSeed seed number
     × (asked ≡ a_trial format seed)
-AreBehind ToG64 others asked = (disk : G64Disk) × IsFormat (format_of disk) others × (asked ≡ a_g64_file disk)
-AreBehind FromG64 others asked = (disk : G64Disk) × IsFormat (format_of disk) others × (asked ≡ an_image_of_g64 disk)
+AreBehind ToG64 others asked =
+    (disk : G64Disk) × IsFormat (format_of disk) others × (asked ≡ a_g64_file disk)
+AreBehind FromG64 others asked =
+    (disk : G64Disk) × IsFormat (format_of disk) others × (asked ≡ an_image_of_g64 disk)
 AreBehind Help others asked =
     ((others ≡ []) × (asked ≡ a_page AllPages))
-    ⊎ ((word : List ℕ) × (verb : Verb) × (others ≡ word ∷ []) × (verb_of word ≡ Some verb) × (asked ≡ a_page (About verb)))
+    ⊎ ((word : List ℕ) × (verb : Verb) × (others ≡ word ∷ []) × (verb_of word ≡ Some verb)
+    × (asked ≡ a_page (About verb)))
 
 -- The words that begin with a dash stand alone.
 abbrev pub IsPageWord : (first : List ℕ) → Page → Type 0
@@ -69,7 +86,8 @@ IsPageWord first Version = first ≡ codes "--version"
 IsPageWord first (About verb) = ⊥
 
 abbrev pub IsDashed : (first : List ℕ) → (others : List (List ℕ)) → Asked → Type 0
-IsDashed first others asked = (others ≡ []) × ((page : Page) × IsPageWord first page × (asked ≡ a_page page))
+IsDashed first others asked =
+    (others ≡ []) × ((page : Page) × IsPageWord first page × (asked ≡ a_page page))
 
 -- by the verb whose word stands first, if one's does
 abbrev pub AreByVerb : Option Verb → (first : List ℕ) → (others : List (List ℕ)) → Asked → Type 0

@@ -6,10 +6,13 @@ use Rattle.track_shelf.specs.Stepping.{reaches_all}
 use Rattle.track_shelf.specs.declared.stepping.Stepping.{Stepping}
 use Rattle.track_shelf.specs.declared.stepping.Stepping.TheVariants.{Single, Double}
 use Rattle.flux_words.specs.declared.dump_words.DumpOptions.{DumpOptions}
-use Rattle.flux_words.specs.declared.dump_words.DumpOptions.TheVariants.{Without, DoubleStep, Picture, PictureDoubleStep, DoubleStepPicture}
+use Rattle.flux_words.specs.declared.dump_words.DumpOptions.TheVariants.{Without, DoubleStep}
+use Rattle.flux_words.specs.declared.dump_words.DumpOptions.TheVariants.{Picture, PictureDoubleStep}
+use Rattle.flux_words.specs.declared.dump_words.DumpOptions.TheVariants.{DoubleStepPicture}
 use Rattle.flux_words.specs.declared.dump_words.DumpsAsked.{DumpsAsked}
 use Rattle.flux_words.specs.declared.dump_words.Shown.{Shown}
-use Rattle.flux_words.specs.declared.dump_words.Shown.TheVariants.{Image as ShownImage, Picture as ShownPicture}
+use Rattle.flux_words.specs.declared.dump_words.Shown.TheVariants.{Image as ShownImage}
+use Rattle.flux_words.specs.declared.dump_words.Shown.TheVariants.{Picture as ShownPicture}
 
 -- what is asked of dumps: the options, the dumps by their names, and the format
 pub record Asked : Type 0 where
@@ -59,7 +62,8 @@ is_nameless [] = true
 is_nameless (byte ∷ bytes) = false
 
 -- there are 1 to 8 dumps, each with a name, and the drive reaches all tracks of the format
-pub record AreReadable (dumps : List (List ℕ)) (stepping : Stepping) (format : Format) : Type 0 where
+pub record AreReadable (dumps : List (List ℕ)) (stepping : Stepping)
+    (format : Format) : Type 0 where
   pub some : 1 ≤ length dumps
   pub most : length dumps ≤ MOST_DUMPS
   pub named : list_any is_nameless dumps ≡ false

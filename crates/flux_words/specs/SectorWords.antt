@@ -1,5 +1,6 @@
 -- The words that ask to show a sector of dumps.
-use Rattle.std.specs.Prelude.{◌≡◌, ◌≢◌, ◌<◌, ◌≤◌, ◌⊎◌, ℕ, ◌+◌, Bool, if◌then◌else◌, List, [], ◌∷◌, ◌++◌, length, codes, decimal, Option, Some, None}
+use Rattle.std.specs.Prelude.{◌≡◌, ◌≢◌, ◌<◌, ◌≤◌, ◌⊎◌, ℕ, ◌+◌, Bool, if◌then◌else◌, List, [], ◌∷◌}
+use Rattle.std.specs.Prelude.{◌++◌, length, codes, decimal, Option, Some, None}
 use Rattle.std.specs.Str.Parse.{IsNumeral, digits_value}
 use Rattle.flux_base.specs.declared.track.TrackId.{TrackId}
 use Rattle.disk_recordings.specs.TrackSectors.{sectors_of, track_at}
@@ -12,8 +13,8 @@ use Rattle.track_shelf.specs.declared.stepping.Stepping.TheVariants.{Single, Dou
 use Rattle.flux_words.specs.DumpWords.{AreReadable, double_step_word}
 use Rattle.flux_words.specs.declared.sector_words.ShowAsked.{ShowAsked}
 
--- what is asked of one sector: how the drive stepped, the dumps by their names, the format, the track by its number, the sector, and the content that is
--- asked for alone
+-- what is asked of one sector: how the drive stepped, the dumps by their names, the format, the
+-- track by its number, the sector, and the content that is asked for alone
 pub record AskedSector : Type 0 where
   pub stepping : Stepping
   pub dumps : List (List ℕ)
@@ -67,22 +68,27 @@ IsSectorWord sector word = AreDigitsOf sector 3 word
 
 -- what reports print of tracks and sectors are such words
 pub record ReportsNameThem : Type 0 where
-  pub tracks_named : (track : TrackId) → track.cylinder < 100 → IsTrackWord track (two_digits track.cylinder ++ codes "." ++ decimal track.head)
+  pub tracks_named : (track : TrackId) → track.cylinder < 100
+      → IsTrackWord track (two_digits track.cylinder ++ codes "." ++ decimal track.head)
   pub sectors_named : (sector : ℕ) → sector < 1000 → IsSectorWord sector (two_digits sector)
 
 -- the track of the format that a word names, by its number
 abbrev pub NamesTrack : Format → (word : List ℕ) → Option ℕ → Type 0
-NamesTrack format word number = IsFirst (length (tracks format)) (λ k. IsTrackWord (track_at format k) word) number
+NamesTrack format word number =
+    IsFirst (length (tracks format)) (λ k. IsTrackWord (track_at format k) word) number
 
--- the sector of the track that a word names, by its number among the track's sectors from the first on
+-- the sector of the track that a word names, by its number among the
+-- track's sectors from the first on
 abbrev pub NamesSector : Format → (number : ℕ) → (word : List ℕ) → Option ℕ → Type 0
 NamesSector format number word index =
-    IsFirst (sectors_of format (track_at format number)).count (λ k. IsSectorWord ((sectors_of format (track_at format number)).first + k) word) index
+    IsFirst (sectors_of format (track_at format number)).count
+    (λ k. IsSectorWord ((sectors_of format (track_at format number)).first + k) word) index
 
 -- the words of the content that is asked for alone
 abbrev pub AreCopyWords : Option ℕ → List (List ℕ) → Type 0
 AreCopyWords None words = words ≡ []
-AreCopyWords (Some number) words = (word : List ℕ) × NamesCopyNumber word (Some number) × (words ≡ codes "--copy" ∷ word ∷ [])
+AreCopyWords (Some number) words =
+    (word : List ℕ) × NamesCopyNumber word (Some number) × (words ≡ codes "--copy" ∷ word ∷ [])
 
 -- the words that name the format, the track and the sector
 pub record PlaceParts (asked : AskedSector) : Type 0 where
@@ -93,7 +99,8 @@ pub record PlaceParts (asked : AskedSector) : Type 0 where
   pub sector : List ℕ
   pub index : ℕ
   pub sector_is : NamesSector asked.format asked.number sector (Some index)
-  pub at : asked.sector ≡ (sectors_of asked.format (track_at asked.format asked.number)).first + index
+  pub at : asked.sector
+      ≡ (sectors_of asked.format (track_at asked.format asked.number)).first + index
 
 -- the format, the track, the sector and the dumps
 abbrev pub place_words : (asked : AskedSector) → PlaceParts asked → List (List ℕ)
@@ -118,15 +125,22 @@ copy_first_words asked parts = parts.copy ++ stepped_words asked parts.place
 
 -- both options in either order
 abbrev pub behind_words : (asked : AskedSector) → ShowParts asked → List (List ℕ)
-behind_words asked parts = if parts.copy_first then copy_first_words asked parts else step_words asked.stepping ++ copy_words asked parts
+behind_words asked parts =
+    if parts.copy_first then copy_first_words asked parts
+    else step_words asked.stepping ++ copy_words asked parts
 
 abbrev pub CanBeShown : AskedSector → Type 0
 CanBeShown asked = AreReadable asked.dumps asked.stepping asked.format
 
--- words, by what stands in them of what is asked, where it is of this kind: what they ask for, if they ask for that
-abbrev pub NamesBy : {Parts : AskedSector → Type 0} → (text : (asked : AskedSector) → Parts asked → List (List ℕ)) → (Fits : AskedSector → Type 0) → (words : List (List ℕ)) → Option AskedSector → Type 0
-NamesBy {Parts} text Fits words (Some asked) = Fits asked × CanBeShown asked × ((parts : Parts asked) × (words ≡ text asked parts))
-NamesBy {Parts} text Fits words None = (asked : AskedSector) → Fits asked → CanBeShown asked → (parts : Parts asked) → words ≢ text asked parts
+-- words, by what stands in them of what is asked, where it is of this kind: what they
+-- ask for, if they ask for that
+abbrev pub NamesBy : {Parts : AskedSector → Type 0}
+    → (text : (asked : AskedSector) → Parts asked → List (List ℕ)) → (Fits : AskedSector → Type 0)
+    → (words : List (List ℕ)) → Option AskedSector → Type 0
+NamesBy {Parts} text Fits words (Some asked) =
+    Fits asked × CanBeShown asked × ((parts : Parts asked) × (words ≡ text asked parts))
+NamesBy {Parts} text Fits words None = (asked : AskedSector) → Fits asked → CanBeShown asked
+    → (parts : Parts asked) → words ≢ text asked parts
 
 -- what the words behind the verb's ask for
 abbrev pub NamesBehind : List (List ℕ) → Option AskedSector → Type 0
@@ -155,8 +169,10 @@ NamesStepped alone words asked = NamesBy stepped_words (IsAlone alone) words ask
 
 -- the number of a content, and the words behind it
 abbrev pub HasNumber : List (List ℕ) → Option (ℕ × List (List ℕ)) → Type 0
-HasNumber words (Some (number, others)) = (word : List ℕ) × NamesCopyNumber word (Some number) × (words ≡ word ∷ others)
-HasNumber words None = (word : List ℕ) (others : List (List ℕ)) → words ≡ word ∷ others → NamesCopyNumber word None
+HasNumber words (Some (number, others)) =
+    (word : List ℕ) × NamesCopyNumber word (Some number) × (words ≡ word ∷ others)
+HasNumber words None =
+    (word : List ℕ) (others : List (List ℕ)) → words ≡ word ∷ others → NamesCopyNumber word None
 
 -- and those from the format's on
 abbrev pub HasOptions : Stepping → Option ℕ → AskedSector → Type 0

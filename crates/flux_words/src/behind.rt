@@ -2,7 +2,8 @@
 
 ghost use Rattle.std.specs.Prelude.{◌≡◌, ◌⊎◌, ℕ, List, IfNone, IfSome};
 ghost use Rattle.std.specs.Option.{option_map};
-ghost use Rattle.flux_help.specs.declared.verb.Verb.TheVariants.{DecodeFolder, DecodeSet, FromG64, Help, Identify, Read, Show, ToG64, Trial, Turns, Write};
+ghost use Rattle.flux_help.specs.declared.verb.Verb.TheVariants.{DecodeFolder, DecodeSet, FromG64, Help, Identify};
+ghost use Rattle.flux_help.specs.declared.verb.Verb.TheVariants.{Read, Show, ToG64, Trial, Turns, Write};
 ghost use Rattle.flux_words.specs.Asked.{asked_of};
 ghost use Rattle.flux_words.specs.CommandWords.{AreStreams, AskBehind, IsAsked, IsFormat, IsFormatWith};
 ghost use Rattle.flux_words.specs.G64Disks.{format_of};

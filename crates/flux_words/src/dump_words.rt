@@ -94,7 +94,8 @@ pub(crate) fn behind<'a>(words: &'a [Word], first: &[u8]) -> Option<&'a [Word]>
     }
 }
 
-/// What the words behind the verb's ask for: `[--picture] [--double-step] FORMAT DUMP...`, with the options in either order.
+/// What the words behind the verb's ask for: `[--picture] [--double-step] FORMAT DUMP...`,
+/// with the options in either order.
 pub(crate) fn asked_behind(words: &[Word]) -> Option<DumpsAsked<'_>>
     ensures { NamesBehind words.now (option_map asked_of result) }
 {

@@ -3,7 +3,9 @@
 ghost use Rattle.std.specs.Prelude.{◌≡◌, ◌≢◌, ◌<◌, ◌≤◌, ◌-◌, ◌++◌, ℕ, IfSome, List, MatchOption, Some, decimal, length};
 ghost use Rattle.std.specs.Bool.{Decides};
 ghost use Rattle.std.specs.Option.{option_map};
-ghost use Rattle.flux_words.specs.SectorWords.{AreDigitsOf, HasNumber, IsSectorWord, IsTrackWord, NamesBehind, NamesCopy, NamesCopyFirst, NamesCopyNumber, NamesPlace, NamesSector, NamesStepped, NamesTrack, ReportsNameThem, asked_sector};
+ghost use Rattle.flux_words.specs.SectorWords.{AreDigitsOf, HasNumber, IsSectorWord, IsTrackWord, NamesBehind};
+ghost use Rattle.flux_words.specs.SectorWords.{NamesCopy, NamesCopyFirst, NamesCopyNumber, NamesPlace, NamesSector};
+ghost use Rattle.flux_words.specs.SectorWords.{NamesStepped, NamesTrack, ReportsNameThem, asked_sector};
 ghost use Rattle.disk_recordings.specs.TrackSectors.{sectors_of as sectors_in, track_at};
 ghost use Rattle.sector_images.specs.Places.{tracks};
 
@@ -38,8 +40,8 @@ pub struct ShowAsked<'a> {
     pub dumps: &'a [Word],
 }
 
-/// What the words behind the verb's ask for: `[--double-step] [--copy N] FORMAT TRACK SECTOR DUMP...`, with the options in either
-/// order, and the track and the sector as people write them: `5.1` or `05.1`, and `4`, `04` or `004`.
+/// What the words behind the verb's ask for: `[--double-step] [--copy N] FORMAT TRACK SECTOR DUMP...`, with the options
+/// in either order, and the track and the sector as people write them: `5.1` or `05.1`, and `4`, `04` or `004`.
 pub(crate) fn asked_behind(words: &[Word]) -> Option<ShowAsked<'_>>
     ensures { NamesBehind words.now (option_map asked_sector result) }
 {
@@ -178,7 +180,8 @@ fn is_track_word(track: TrackId, word: &[u8]) -> bool
 
 /// What stands before an ending, where a word has it.
 fn before<'a>(ending: &[u8], word: &'a [u8]) -> Option<&'a [u8]>
-    ensures { MatchOption result ((front : List ℕ) → word.now ≢ front ++ ending.now) (λ front. word.now ≡ front.now ++ ending.now) }
+    ensures { MatchOption result ((front : List ℕ) → word.now ≢ front ++ ending.now)
+        (λ front. word.now ≡ front.now ++ ending.now) }
 {
     word.strip_suffix(ending)
 }
@@ -186,7 +189,8 @@ fn before<'a>(ending: &[u8], word: &'a [u8]) -> Option<&'a [u8]>
 /// The sector of a track that a word names.
 fn sector_number(format: Format, number: u32, word: &[u8]) -> Option<u8>
     requires { number < length (tracks format) }
-    ensures names { NamesSector format number word.now (option_map (λ sector. sector - (sectors_in format (track_at format number)).first) result) }
+    ensures names { NamesSector format number word.now
+        (option_map (λ sector. sector - (sectors_in format (track_at format number)).first) result) }
     ensures least { IfSome result (λ sector. (sectors_in format (track_at format number)).first ≤ sector) }
 {
     tracks_keep_bounds();

@@ -19,7 +19,8 @@ pub(crate) fn seed_of(word: &[u8]) -> Option<u32>
 
 /// The number that a word of digits alone writes, if it has at most 32 bits.
 pub(crate) fn number_of(word: &[u8]) -> Option<u32>
-    ensures some { IfSome result (λ number. IsNumeral 10 word.now × (digits_value 10 word.now ≡ number) × (number < 2 ^ 32)) }
+    ensures some { IfSome result
+        (λ number. IsNumeral 10 word.now × (digits_value 10 word.now ≡ number) × (number < 2 ^ 32)) }
     ensures none { IfNone result (¬ (IsNumeral 10 word.now × (digits_value 10 word.now < 2 ^ 32))) }
 {
     if word.is_empty() {

@@ -1,5 +1,7 @@
--- What the calls that write and read files may answer, and what that says of the bytes that were taken and written.
-use Rattle.std.specs.Prelude.{◌≡◌, ◌≤◌, ◌<◌, ◌⊎◌, ℕ, ◌+◌, List, [], ◌∷◌, ◌++◌, drop, length, Option, Some, None, Result, Ok, Err}
+-- What the calls that write and read files may answer, and what that says of the
+-- bytes that were taken and written.
+use Rattle.std.specs.Prelude.{◌≡◌, ◌≤◌, ◌<◌, ◌⊎◌, ℕ, ◌+◌, List, [], ◌∷◌, ◌++◌, drop, length, Option}
+use Rattle.std.specs.Prelude.{Some, None, Result, Ok, Err}
 use Rattle.std.specs.Io.KnownBytes.{Appends, Consumes, IsAtEnd}
 use Rattle.flux_base.specs.Outside.{Rose}
 use Rattle.flux_engine.specs.Answers.{AppendsAndPart}
@@ -14,7 +16,8 @@ use Rattle.g64_image.specs.Faults.{MOST_BYTES, first_fault}
 use Rattle.g64_image.specs.FileDisks.{AreFileParts, FileDisk, IsFileDisk}
 use Rattle.g64_image.specs.Layout.{g64_file}
 use Rattle.g64_image.specs.declared.fault.FromStop.{FromStop}
-use Rattle.g64_image.specs.declared.fault.FromStop.TheVariants.{ReadFault, ImageFault, NotesFault, Refused}
+use Rattle.g64_image.specs.declared.fault.FromStop.TheVariants.{ReadFault, ImageFault, NotesFault}
+use Rattle.g64_image.specs.declared.fault.FromStop.TheVariants.{Refused}
 
 abbrev pub FromAnswer : Type 0
 FromAnswer = Result Totals FromStop
@@ -23,7 +26,8 @@ FromAnswer = Result Totals FromStop
 abbrev pub WritesFile : Format → (left left' written written' : Option (List ℕ)) → Answer → Type 0
 WritesFile format = WritesMade (g64_file format) format
 
-abbrev pub SaysOfBytes : Format → (x : List ℕ) → (left' written written' : Option (List ℕ)) → Answer → Type 0
+abbrev pub SaysOfBytes : Format → (x : List ℕ) → (left' written written' : Option (List ℕ)) → Answer
+    → Type 0
 SaysOfBytes format = SaysOfMade (g64_file format) format
 
 -- each fault of an object of the outside comes only where its count rose
@@ -38,8 +42,10 @@ pub record IsTakenFile (taken : List ℕ) (left' : Option (List ℕ)) : Type 0 w
   pub most : length taken ≤ MOST_BYTES + 1
   pub ended : length taken ≤ MOST_BYTES → IsAtEnd left'
 
--- the lines of the first tracks were written, and their parts of the image with a part of the next that is shorter than it
-pub record StoppedInImage (format : Format) (file : List ℕ) (image image' notes notes' : Option (List ℕ)) : Type 0 where
+-- the lines of the first tracks were written, and their parts of the image with a part of
+-- the next that is shorter than it
+pub record StoppedInImage (format : Format) (file : List ℕ)
+    (image image' notes notes' : Option (List ℕ)) : Type 0 where
   pub parts : List TrackPart
   pub next : TrackPart
   pub each : AreFileParts format file (parts ++ next ∷ [])
@@ -47,9 +53,10 @@ pub record StoppedInImage (format : Format) (file : List ℕ) (image image' note
   pub image_grew : AppendsAndPart image image' (images parts) next.image
   pub notes_grew : Appends notes notes' (lines parts)
 
--- the lines of the first tracks were written, with a part of the lines of the next that is shorter than they are, and
--- the parts of the image of all these tracks
-pub record StoppedInLines (format : Format) (file : List ℕ) (image image' notes notes' : Option (List ℕ)) : Type 0 where
+-- the lines of the first tracks were written, with a part of the lines of the next that is shorter
+-- than they are, and the parts of the image of all these tracks
+pub record StoppedInLines (format : Format) (file : List ℕ)
+    (image image' notes notes' : Option (List ℕ)) : Type 0 where
   pub parts : List TrackPart
   pub next : TrackPart
   pub each : AreFileParts format file (parts ++ next ∷ [])
@@ -57,8 +64,10 @@ pub record StoppedInLines (format : Format) (file : List ℕ) (image image' note
   pub image_grew : Appends image image' (images (parts ++ next ∷ []))
   pub notes_grew : AppendsAndPart notes notes' (lines parts) next.lines
 
--- all sector lines and the whole image were written, and a part of the total line that is shorter than it
-pub record StoppedInTotal (format : Format) (file : List ℕ) (image image' notes notes' : Option (List ℕ)) : Type 0 where
+-- all sector lines and the whole image were written, and a part of the
+-- total line that is shorter than it
+pub record StoppedInTotal (format : Format) (file : List ℕ)
+    (image image' notes notes' : Option (List ℕ)) : Type 0 where
   pub parts : List TrackPart
   pub each : AreFileParts format file parts
   pub many : length parts ≡ length (tracks format)
@@ -71,45 +80,57 @@ pub record IsWholeFile (format : Format) (file : List ℕ) (left' : Option (List
   pub ended : IsAtEnd left'
 
 -- all was written that a file without a fault comes to
-pub record WroteAll (format : Format) (file : List ℕ) (image image' notes notes' : Option (List ℕ)) (o : FileDisk) : Type 0 where
+pub record WroteAll (format : Format) (file : List ℕ) (image image' notes notes' : Option (List ℕ))
+    (o : FileDisk) : Type 0 where
   pub disk : IsFileDisk format file o
   pub image_grew : Appends image image' o.image
   pub notes_grew : Appends notes notes' o.notes
 
 -- what the answer says of the bytes that were taken as a file, and of those that were written
-abbrev pub SaysOfFile : Format → (taken : List ℕ) → (left' image image' notes notes' : Option (List ℕ)) → FromAnswer → Type 0
+abbrev pub SaysOfFile : Format → (taken : List ℕ)
+    → (left' image image' notes notes' : Option (List ℕ)) → FromAnswer → Type 0
 SaysOfFile format taken left' image image' notes notes' (Ok totals) =
-    (o : FileDisk) × IsWholeFile format taken left' × WroteAll format taken image image' notes notes' o × (totals ≡ o.totals)
+    (o : FileDisk) × IsWholeFile format taken left'
+    × WroteAll format taken image image' notes notes' o × (totals ≡ o.totals)
 SaysOfFile format taken left' image image' notes notes' (Err (Refused fault)) =
-    IsTakenFile taken left' × (first_fault format taken ≡ Some fault) × (image' ≡ image) × (notes' ≡ notes)
+    IsTakenFile taken left' × (first_fault format taken ≡ Some fault) × (image' ≡ image)
+    × (notes' ≡ notes)
 SaysOfFile format taken left' image image' notes notes' (Err ReadFault) =
     (length taken ≤ MOST_BYTES) × (image' ≡ image) × (notes' ≡ notes)
 SaysOfFile format taken left' image image' notes notes' (Err ImageFault) =
     IsWholeFile format taken left' × StoppedInImage format taken image image' notes notes'
 SaysOfFile format taken left' image image' notes notes' (Err NotesFault) =
     IsWholeFile format taken left'
-    × (StoppedInLines format taken image image' notes notes' ⊎ StoppedInTotal format taken image image' notes notes')
+    × (StoppedInLines format taken image image' notes notes'
+    ⊎ StoppedInTotal format taken image image' notes notes')
 
 -- A call that reads a file: it took these bytes.
-pub record ReadsFile (format : Format) (left left' image image' notes notes' : Option (List ℕ)) (answer : FromAnswer) : Type 0 where
+pub record ReadsFile (format : Format) (left left' image image' notes notes' : Option (List ℕ))
+    (answer : FromAnswer) : Type 0 where
   pub taken : List ℕ
   pub consumed : Consumes left left' taken
   pub says : SaysOfFile format taken left' image image' notes notes' answer
 
--- What the answer says of a source that tells its bytes x: all of a file without a fault, and of other bytes at most one more than
--- a file may have, are taken.
-abbrev pub SaysOfFileBytes : Format → (x : List ℕ) → (left' image image' notes notes' : Option (List ℕ)) → FromAnswer → Type 0
+-- What the answer says of a source that tells its bytes x: all of a file without a fault, and of
+-- other bytes at most one more than a file may have, are taken.
+abbrev pub SaysOfFileBytes : Format → (x : List ℕ)
+    → (left' image image' notes notes' : Option (List ℕ)) → FromAnswer → Type 0
 SaysOfFileBytes format x left' image image' notes notes' (Ok totals) =
-    (o : FileDisk) × (first_fault format x ≡ None) × (left' ≡ Some []) × WroteAll format x image image' notes notes' o × (totals ≡ o.totals)
+    (o : FileDisk) × (first_fault format x ≡ None) × (left' ≡ Some [])
+    × WroteAll format x image image' notes notes' o × (totals ≡ o.totals)
 SaysOfFileBytes format x left' image image' notes notes' (Err (Refused fault)) =
-    (first_fault format x ≡ Some fault) × (left' ≡ Some (drop (MOST_BYTES + 1) x)) × (image' ≡ image) × (notes' ≡ notes)
+    (first_fault format x ≡ Some fault) × (left' ≡ Some (drop (MOST_BYTES + 1) x))
+    × (image' ≡ image) × (notes' ≡ notes)
 SaysOfFileBytes format x left' image image' notes notes' (Err ReadFault) =
-    (taken : List ℕ) × Consumes (Some x) left' taken × (length taken ≤ MOST_BYTES) × (image' ≡ image) × (notes' ≡ notes)
+    (taken : List ℕ) × Consumes (Some x) left' taken × (length taken ≤ MOST_BYTES)
+    × (image' ≡ image) × (notes' ≡ notes)
 SaysOfFileBytes format x left' image image' notes notes' (Err ImageFault) =
-    (first_fault format x ≡ None) × (left' ≡ Some []) × StoppedInImage format x image image' notes notes'
+    (first_fault format x ≡ None) × (left' ≡ Some [])
+    × StoppedInImage format x image image' notes notes'
 SaysOfFileBytes format x left' image image' notes notes' (Err NotesFault) =
     (first_fault format x ≡ None) × (left' ≡ Some [])
-    × (StoppedInLines format x image image' notes notes' ⊎ StoppedInTotal format x image image' notes notes')
+    × (StoppedInLines format x image image' notes notes'
+    ⊎ StoppedInTotal format x image image' notes notes')
 
 -- the file was read, or has a fault
 abbrev pub IsReadOrRefused : FromAnswer → Type 0

@@ -1,5 +1,7 @@
--- What a file comes to: its tracks, each read as a ring, and from them an image, a report and its totals.
-use Rattle.std.specs.Prelude.{◌≡◌, ◌<◌, ℕ, ◌+◌, ◌++◌, Bool, List, [], ◌∷◌, flat_map, length, Option, Some, None}
+-- What a file comes to: its tracks, each read as a ring, and from them an
+-- image, a report and its totals.
+use Rattle.std.specs.Prelude.{◌≡◌, ◌<◌, ℕ, ◌+◌, ◌++◌, Bool, List, [], ◌∷◌, flat_map, length, Option}
+use Rattle.std.specs.Prelude.{Some, None}
 use Rattle.disk_recordings.specs.Members.{header_at, sector_at}
 use Rattle.flux_base.specs.declared.track.TrackId.{TrackId}
 use Rattle.flux_engine.specs.Disks.{DiskReport, part_at, report_over}
@@ -15,14 +17,17 @@ use Rattle.g64_image.specs.Faults.{first_fault}
 use Rattle.g64_image.specs.Layout.{track_cells}
 use Rattle.g64_image.specs.declared.fault.G64Fault.{G64Fault}
 
-module _ (header : List Bool → ℕ → Type 0) (sector : List Bool → ℕ → List ℕ → Type 0) (cells : List Bool) (end : ℕ) where
+module _ (header : List Bool → ℕ → Type 0) (sector : List Bool → ℕ → List ℕ → Type 0)
+    (cells : List Bool) (end : ℕ) where
   -- All readings at places from one on, and below the end, by rising place, each with its bytes.
   abbrev pub AreReadingsTo : ℕ → List Found → Type 0
   AreReadingsTo from [] = NoHeader header cells from end
   AreReadingsTo from (found ∷ rest) =
-      FirstReading header sector cells from (Some (found.0, found.1)) found.2 × (found.0 < end) × AreReadingsTo (found.0 + 1) rest
+      FirstReading header sector cells from (Some (found.0, found.1)) found.2 × (found.0 < end)
+      × AreReadingsTo (found.0 + 1) rest
 
--- a place of a track that is kept as one ring: it lies in turn 0 of one capture, whose cells no clock had to recover
+-- a place of a track that is kept as one ring: it lies in turn 0 of one capture, whose
+-- cells no clock had to recover
 abbrev pub ring_place : ℕ → Place
 ring_place cell = record { capture = 0; clock = Following; turn = 0; cell = cell }
 
@@ -30,11 +35,13 @@ ring_place cell = record { capture = 0; clock = Following; turn = 0; cell = cell
 abbrev pub ring_readings : List Found → List NotedReading
 ring_readings found = flat_map (λ f. readings_at (ring_place f.0) f.1 f.2) found
 
--- All that can be read in a ring of these cells, and what it comes to: at each place of the cells, where the first cells stand
--- once more after the last.
-pub record IsRingPart (format : Format) (track : TrackId) (cells : List Bool) (part : TrackPart) : Type 0 where
+-- All that can be read in a ring of these cells, and what it comes to: at each place of the cells,
+-- where the first cells stand once more after the last.
+pub record IsRingPart (format : Format) (track : TrackId) (cells : List Bool)
+    (part : TrackPart) : Type 0 where
   pub found : List Found
-  pub all : AreReadingsTo (header_at format track) (sector_at format track) (cells ++ cells) (length cells) 0 found
+  pub all : AreReadingsTo (header_at format track) (sector_at format track) (cells ++ cells)
+      (length cells) 0 found
   pub is : part ≡ part_of format track (ring_readings found)
 
 -- what the cells come to that a file has of track number n
@@ -43,7 +50,8 @@ IsFilePart format file n part = IsRingPart format (track_at format n) (track_cel
 
 -- the first tracks of a file, one for each part
 abbrev pub AreFileParts : Format → List ℕ → List TrackPart → Type 0
-AreFileParts format file parts = (n : ℕ) → n < length parts → IsFilePart format file n (part_at parts n)
+AreFileParts format file parts =
+    (n : ℕ) → n < length parts → IsFilePart format file n (part_at parts n)
 
 -- a disk that is read of a file is stopped by the file's fault
 abbrev pub FileDisk : Type 0

@@ -11,7 +11,8 @@ use Rattle.g64_image.specs.Answers.{StoppedInImage, StoppedInLines}
 use Rattle.g64_image.specs.FileDisks.{AreFileParts}
 
 -- The first n tracks of a file are written whole.
-pub record HasRead (format : Format) (file : List ℕ) (image image' notes notes' : Option (List ℕ)) (n : ℕ) (totals : Totals) : Type 0 where
+pub record HasRead (format : Format) (file : List ℕ) (image image' notes notes' : Option (List ℕ))
+    (n : ℕ) (totals : Totals) : Type 0 where
   pub parts : List TrackPart
   pub many : length parts ≡ n
   pub each : AreFileParts format file parts
@@ -20,7 +21,10 @@ pub record HasRead (format : Format) (file : List ℕ) (image image' notes notes
   pub totals_are : totals ≡ totals_over parts
 
 -- a sink failed at a track
-abbrev pub WasStopped : Format → (file : List ℕ) → (image image' notes notes' : Option (List ℕ)) → Result Totals PartFault → Type 0
+abbrev pub WasStopped : Format → (file : List ℕ) → (image image' notes notes' : Option (List ℕ))
+    → Result Totals PartFault → Type 0
 WasStopped format file image image' notes notes' (Ok totals) = Unit {0}
-WasStopped format file image image' notes notes' (Err ImageFault) = StoppedInImage format file image image' notes notes'
-WasStopped format file image image' notes notes' (Err NotesFault) = StoppedInLines format file image image' notes notes'
+WasStopped format file image image' notes notes' (Err ImageFault) =
+    StoppedInImage format file image image' notes notes'
+WasStopped format file image image' notes notes' (Err NotesFault) =
+    StoppedInLines format file image image' notes notes'

@@ -2,8 +2,10 @@
 
 ghost use Rattle.std.specs.Prelude.{◌≡◌, ◌≤◌, ◌<◌, ◌+◌, None, length};
 ghost use Rattle.sector_images.specs.Places.{tracks};
-ghost use Rattle.g64_image.specs.Faults.{HasTables, first_fault as first_fault_of, table_fault as table_fault_of, track_fault as track_fault_of, tracks_fault as tracks_fault_of};
-ghost use Rattle.g64_image.specs.Layout.{IsCommodore, cells_of_bytes, length_at as length_of, offset_of as offset_in, track_cells};
+ghost use Rattle.g64_image.specs.Faults.{HasTables, first_fault as first_fault_of, table_fault as table_fault_of};
+ghost use Rattle.g64_image.specs.Faults.{track_fault as track_fault_of, tracks_fault as tracks_fault_of};
+ghost use Rattle.g64_image.specs.Layout.{IsCommodore, cells_of_bytes, length_at as length_of, offset_of as offset_in};
+ghost use Rattle.g64_image.specs.Layout.{track_cells};
 
 use crate::fault::G64Fault;
 use crate::front::{HALF_TRACKS, SIGNATURE};

@@ -3,7 +3,9 @@
 ghost use Rattle.std.specs.Prelude.{◌≡◌, ◌≤◌, ◌+◌, ◌++◌, length};
 ghost use Rattle.arrayvec.specs.ArrayVec.{array_vec_len};
 ghost use Rattle.byteorder.specs.Endian.{little_bytes};
-ghost use Rattle.g64_image.specs.Layout.{front as front_of, is_track as is_track_of, offset_entry as offset_in, speed_entry as speed_in, speed_of as speed_at, table, written_place as place_of_track};
+ghost use Rattle.g64_image.specs.Layout.{front as front_of, is_track as is_track_of, offset_entry as offset_in};
+ghost use Rattle.g64_image.specs.Layout.{speed_entry as speed_in, speed_of as speed_at, table};
+ghost use Rattle.g64_image.specs.Layout.{written_place as place_of_track};
 
 use arrayvec::ArrayVec;
 use byteorder::{ByteOrder, LittleEndian};

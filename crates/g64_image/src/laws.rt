@@ -1,6 +1,8 @@
 //! What the definition of `from_g64` comes to, also of the files that `to_g64` writes.
 
-ghost use Rattle.g64_image.specs.Laws.{FileReportsHaveNoOtherLines, GoodIsRightInFiles, LinesNameFileVerdicts, LinesTellInFiles, OneFileDisk, WrittenFilesComeBack, WrittenFilesHaveNoFault, WrittenTracksAreRings};
+ghost use Rattle.g64_image.specs.Laws.{FileReportsHaveNoOtherLines, GoodIsRightInFiles, LinesNameFileVerdicts};
+ghost use Rattle.g64_image.specs.Laws.{LinesTellInFiles, OneFileDisk, WrittenFilesComeBack, WrittenFilesHaveNoFault};
+ghost use Rattle.g64_image.specs.Laws.{WrittenTracksAreRings};
 
 use disk_recordings::{tracks_are_read, tracks_have_only_own, tracks_have_rings};
 use sector_images::{
@@ -15,8 +17,8 @@ pub fn file_disks_are_one()
     tracks_are_read()
 }
 
-/// The file that is written of an image has no fault, and of each track it has the cells of the ring with the image's bytes
-/// in its sectors.
+/// The file that is written of an image has no fault, and of each track it has the cells of the ring with the
+/// image's bytes in its sectors.
 pub fn written_files_have_rings()
     ensures none { WrittenFilesHaveNoFault }
     ensures rings { WrittenTracksAreRings }
@@ -26,9 +28,9 @@ pub fn written_files_have_rings()
     sectors_lie_in_images()
 }
 
-/// The report of a file without a fault has one line for each sector, after those of all sectors before it, which names its
-/// verdict, and the total line; that of a file with a fault has none. Where a sector's line is among them, that sector has the
-/// verdict that the line names.
+/// The report of a file without a fault has one line for each sector, after those of all sectors before it, which names
+/// its verdict, and the total line; that of a file with a fault has none. Where a sector's line is among them, that
+/// sector has the verdict that the line names.
 pub fn file_lines_tell()
     ensures count { FileReportsHaveNoOtherLines }
     ensures lines { LinesNameFileVerdicts }
@@ -42,8 +44,8 @@ pub fn file_lines_tell()
     sectors_lie_in_images()
 }
 
-/// So reading that file gives the image, and each sector is good: it is read once, well and never badly, at its place in the
-/// ring of its track, as its line says.
+/// So reading that file gives the image, and each sector is good: it is read once, well and never badly, at its place
+/// in the ring of its track, as its line says.
 pub fn written_files_come_back()
     ensures { WrittenFilesComeBack }
 {
@@ -57,9 +59,9 @@ pub fn written_files_come_back()
     tracks_fill_images()
 }
 
-/// Where the verdict on a sector of a file without a fault is good, it names a place at which the track's cells hold the
-/// sector; its bytes stand at the sector's place in the file's image, and no place of the cells holds the sector with other
-/// bytes.
+/// Where the verdict on a sector of a file without a fault is good, it names a place at which the track's
+/// cells hold the sector; its bytes stand at the sector's place in the file's image, and no place of the cells
+/// holds the sector with other bytes.
 pub fn good_is_right_in_files()
     ensures { GoodIsRightInFiles }
 {

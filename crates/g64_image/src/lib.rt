@@ -1,8 +1,8 @@
 //! Disks of the Commodore 1541 as emulators keep them: G64 files, which have the cells of each track.
 //!
-//! An image becomes a file: for each track the ring of cells with the image's bytes in its sectors (`flux_engine`). And a
-//! file becomes an image and a report: each track's cells are read as a ring, from which one verdict for each sector comes,
-//! and from the verdicts the track's part of the image and its lines.
+//! An image becomes a file: for each track the ring of cells with the image's bytes in its sectors (`flux_engine`). And
+//! a file becomes an image and a report: each track's cells are read as a ring, from which one verdict for each sector
+//! comes, and from the verdicts the track's part of the image and its lines.
 #![tactic(auto)]
 
 mod check;

@@ -8,7 +8,8 @@ ghost use Rattle.flux_engine.specs.Blamed.{part_blame};
 ghost use Rattle.flux_engine.specs.Needed.{ReadsUpTo};
 ghost use Rattle.kryo_stream.specs.Reads.{reads_at};
 ghost use Rattle.sector_images.specs.Places.{tracks};
-ghost use Rattle.g64_image.specs.Answers.{FromCause, IsReadOrRefused, IsTakenFile, ReadsFile, SaysOfFile, SaysOfFileBytes};
+ghost use Rattle.g64_image.specs.Answers.{FromCause, IsReadOrRefused, IsTakenFile, ReadsFile, SaysOfFile};
+ghost use Rattle.g64_image.specs.Answers.{SaysOfFileBytes};
 ghost use Rattle.g64_image.specs.Blamed.{from_blame};
 ghost use Rattle.g64_image.specs.Faults.{HasTables, first_fault as first_fault_of};
 ghost use Rattle.g64_image.specs.Layout.{IsCommodore};
@@ -24,9 +25,9 @@ use flux_engine::{PartFault, add_totals, fill, no_totals, write_part};
 use sector_images::{Format, track_count, track_id, tracks_keep_bounds};
 use sector_report::{Naming, Totals, total_line, write_line};
 
-/// Reads a file to its end, or to one byte more than 4194304, and then writes its tracks in order as `decode_planned` does:
-/// of each the track's part of the image to `image` and its lines to `notes`, and at last the total line. No answer is for
-/// want of memory.
+/// Reads a file to its end, or to one byte more than 4194304, and then writes its tracks in order as `decode_planned`
+/// does: of each the track's part of the image to `image` and its lines to `notes`, and at last the total line. No
+/// answer is for want of memory.
 ///
 /// `Refused` names the file's first fault. Then, and after `ReadFault`, nothing was written. After `ImageFault` and
 /// `NotesFault` the tracks before are written whole.
@@ -36,20 +37,26 @@ pub fn from_g64<S: Source, W: Sink, N: Sink>(
     image: &mut W,
     notes: &mut N,
 ) -> Result<Totals, FromStop>
-    ensures read { ReadsFile room.old (S.left source.old) (S.left source.new) (W.written image.old) (W.written image.new) (N.written notes.old) (N.written notes.new) result }
-    ensures told { (bytes : List ℕ) → S.left source.old ≡ Some bytes → SaysOfFileBytes room.old bytes (S.left source.new) (W.written image.old) (W.written image.new) (N.written notes.old) (N.written notes.new) result }
+    ensures read { ReadsFile room.old (S.left source.old) (S.left source.new) (W.written image.old)
+        (W.written image.new) (N.written notes.old) (N.written notes.new) result }
+    ensures told { (bytes : List ℕ) → S.left source.old ≡ Some bytes
+        → SaysOfFileBytes room.old bytes (S.left source.new) (W.written image.old) (W.written image.new)
+        (N.written notes.old) (N.written notes.new) result }
 
     // The source is read only where no more bytes than a file may have were given.
     ensures needed { ReadsUpTo 4194305 (reads_at S.Source source.old) (reads_at S.Source source.new) }
 
     ensures format { room.new ≡ room.old }
-    ensures cause { FromCause (S.faults source.old) (S.faults source.new) (W.faults image.old) (W.faults image.new) (N.faults notes.old) (N.faults notes.new) result }
+    ensures cause { FromCause (S.faults source.old) (S.faults source.new) (W.faults image.old) (W.faults image.new)
+        (N.faults notes.old) (N.faults notes.new) result }
     ensures blames { CountsBy (from_blame result)
         (counts_at S.Source W.Sink N.Sink source.old image.old notes.old)
         (counts_at S.Source W.Sink N.Sink source.new image.new notes.new) }
 
     // Over a source and sinks that do not fail there is no other answer.
-    ensures complete { Stayed (S.faults source.old) (S.faults source.new) → Stayed (W.faults image.old) (W.faults image.new) → Stayed (N.faults notes.old) (N.faults notes.new) → IsReadOrRefused result }
+    ensures complete { Stayed (S.faults source.old) (S.faults source.new)
+        → Stayed (W.faults image.old) (W.faults image.new) → Stayed (N.faults notes.old) (N.faults notes.new)
+        → IsReadOrRefused result }
     ensures source_later { S.faults source.old ≤ S.faults source.new }
     ensures image_later { W.faults image.old ≤ W.faults image.new }
     ensures notes_later { N.faults notes.old ≤ N.faults notes.new }
@@ -79,7 +86,8 @@ fn read_file<W: Sink, N: Sink>(
     requires few { length file.now ≤ 4194305 }
     requires roomy { IsRoomy format tools.old.cells tools.old.book }
     ensures says { (left : Option (List ℕ)) → IsTakenFile file.now left
-        → SaysOfFile format file.now left (W.written image.old) (W.written image.new) (N.written notes.old) (N.written notes.new) result }
+        → SaysOfFile format file.now left (W.written image.old) (W.written image.new) (N.written notes.old)
+        (N.written notes.new) result }
     ensures blames { CountsBy (from_blame result)
         (sinks_counts W.Sink N.Sink image.old notes.old)
         (sinks_counts W.Sink N.Sink image.new notes.new) }
@@ -112,8 +120,12 @@ fn write_tracks<W: Sink, N: Sink>(
     requires tables { HasTables file.now }
     requires sound { first_fault_of format file.now ≡ None }
     requires roomy { IsRoomy format tools.old.cells tools.old.book }
-    ensures ok { IfOk result (λ totals. HasRead format file.now (W.written image.old) (W.written image.new) (N.written notes.old) (N.written notes.new) (length (tracks format)) totals) }
-    ensures err { WasStopped format file.now (W.written image.old) (W.written image.new) (N.written notes.old) (N.written notes.new) result }
+    ensures ok { IfOk result
+        (λ totals.
+        HasRead format file.now (W.written image.old) (W.written image.new) (N.written notes.old) (N.written notes.new)
+        (length (tracks format)) totals) }
+    ensures err { WasStopped format file.now (W.written image.old) (W.written image.new) (N.written notes.old)
+        (N.written notes.new) result }
     ensures blames { CountsBy (part_blame result)
         (sinks_counts W.Sink N.Sink image.old notes.old)
         (sinks_counts W.Sink N.Sink image.new notes.new) }

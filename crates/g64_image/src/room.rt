@@ -47,7 +47,9 @@ impl Model for G64Room {
 
     ghost view = { λ a. a.format };
 
-    ghost invariant = { λ a. IsCommodore a.format × (length a.image.items ≡ most_read a.format) × (length a.file.items ≡ 4194305) × IsRoomy a.format a.tools.cells a.tools.book };
+    ghost invariant = { λ a.
+        IsCommodore a.format × (length a.image.items ≡ most_read a.format) × (length a.file.items ≡ 4194305)
+        × IsRoomy a.format a.tools.cells a.tools.book };
 }
 
 impl G64Room {

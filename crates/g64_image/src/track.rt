@@ -55,8 +55,11 @@ fn push_bytes(cells: &mut Cells, bytes: &[u8])
 fn gather<R: Recording>(recording: &R, track: TrackId, cells: &Cells, end: usize, book: &mut Book)
     requires track { R.has_track recording.now track }
     requires few { end ≤ 1048560 }
-    requires book { IsEmptyBook (record { first = R.first_sector recording.now; count = R.sectors recording.now track; size = R.sector_size recording.now }) book.old }
-    ensures { GathersTo (R.header_at recording.now track) (R.sector_at recording.now track) cells.now.cells end book.old book.new }
+    requires book { IsEmptyBook
+        (record { first = R.first_sector recording.now; count = R.sectors recording.now track; size = R.sector_size recording.now })
+        book.old }
+    ensures { GathersTo (R.header_at recording.now track) (R.sector_at recording.now track) cells.now.cells end book.old
+        book.new }
 {
     let mut buffer = SectorBuffer::new();
     let mut from = 0;

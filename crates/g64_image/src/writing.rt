@@ -22,8 +22,8 @@ use flux_base::{Failed, Sink, Source, write_whole};
 use flux_engine::{WriteFault, fill, track_ring};
 use sector_images::{Format, image_size, track_count};
 
-/// Reads an image to its end, or to one byte more than an image of the format has, and writes its file. No answer is for
-/// want of memory.
+/// Reads an image to its end, or to one byte more than an image of the format has, and writes its file. No
+/// answer is for want of memory.
 ///
 /// `WrongSize` comes exactly where the bytes that were read are not an image's in number. Then, and after `ReadFault`,
 /// nothing was written. After `ImageFault` a part of the file was written.
@@ -32,20 +32,24 @@ pub fn to_g64<S: Source, W: Sink>(
     source: &mut S,
     sink: &mut W,
 ) -> Result<(), WriteFault>
-    ensures wrote { WritesFile room.old (S.left source.old) (S.left source.new) (W.written sink.old) (W.written sink.new) result }
-    ensures told { (bytes : List ℕ) → S.left source.old ≡ Some bytes → SaysOfBytes room.old bytes (S.left source.new) (W.written sink.old) (W.written sink.new) result }
+    ensures wrote { WritesFile room.old (S.left source.old) (S.left source.new) (W.written sink.old)
+        (W.written sink.new) result }
+    ensures told { (bytes : List ℕ) → S.left source.old ≡ Some bytes
+        → SaysOfBytes room.old bytes (S.left source.new) (W.written sink.old) (W.written sink.new) result }
 
     // The source is read only where no more bytes than an image has were given.
     ensures needed { ReadsUpTo (most_read room.old) (reads_at S.Source source.old) (reads_at S.Source source.new) }
 
     ensures format { room.new ≡ room.old }
-    ensures cause { WriteCause (S.faults source.old) (S.faults source.new) (W.faults sink.old) (W.faults sink.new) result }
+    ensures cause { WriteCause (S.faults source.old) (S.faults source.new) (W.faults sink.old) (W.faults sink.new)
+        result }
     ensures blames { CountsBy (write_blame result)
         (three_counts (source_counts S.Source source.old) (sink_counts W.Sink sink.old) no_counts)
         (three_counts (source_counts S.Source source.new) (sink_counts W.Sink sink.new) no_counts) }
 
     // Over a source and a sink that do not fail there is no other answer.
-    ensures complete { Stayed (S.faults source.old) (S.faults source.new) → Stayed (W.faults sink.old) (W.faults sink.new) → IsWrittenOrWrongSize result }
+    ensures complete { Stayed (S.faults source.old) (S.faults source.new)
+        → Stayed (W.faults sink.old) (W.faults sink.new) → IsWrittenOrWrongSize result }
     ensures source_later { S.faults source.old ≤ S.faults source.new }
     ensures sink_later { W.faults sink.old ≤ W.faults sink.new }
 {

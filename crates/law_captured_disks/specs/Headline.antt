@@ -22,6 +22,7 @@ IsBadOrMissing (Bad _ _) = Unit {0}
 IsBadOrMissing Missing = Unit {0}
 
 -- the pieces of track number n
-abbrev pub pieces_of : (format : Format) (image x : List ℕ) → IsErasedDisk format image x → (n : ℕ) → n < length (tracks format) → List RingPiece
+abbrev pub pieces_of : (format : Format) (image x : List ℕ) → IsErasedDisk format image x → (n : ℕ)
+    → n < length (tracks format) → List RingPiece
 pieces_of format image x disk n known =
     ring_piece (disk.captured n known).first ∷ map ring_piece (disk.captured n known).later

@@ -17,9 +17,9 @@ pub fn written_disks_are_captured()
     streams_are_captures()
 }
 
-/// Each header that stands in the recovered cells of a captured track, whole or erased in parts, is that of one of the
-/// track's sectors: no header of another name is read there, by the clock that follows the drive, and by either where the
-/// drive keeps its speed.
+/// Each header that stands in the recovered cells of a captured track, whole or erased in parts, is that of one of
+/// the track's sectors: no header of another name is read there, by the clock that follows the drive, and by either
+/// where the drive keeps its speed.
 pub fn captures_have_no_others()
     ensures { CapturesHaveNoOthers }
 {

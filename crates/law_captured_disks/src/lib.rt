@@ -1,6 +1,6 @@
-//! What captured disks are: streams that carry an image's written tracks, disturbed within the bounds, whole or beside erased
-//! stretches. What is written of an image is one; and no header of another name is read in one. Definitions and laws, for all
-//! formats; nothing here is called for what it does.
+//! What captured disks are: streams that carry an image's written tracks, disturbed within the bounds, whole or beside
+//! erased stretches. What is written of an image is one; and no header of another name is read in one. Definitions and
+//! laws, for all formats; nothing here is called for what it does.
 #![tactic(auto)]
 
 mod laws;

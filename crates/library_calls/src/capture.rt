@@ -14,8 +14,8 @@ use flux_base::Source;
 use flux_engine::{Clocks, DiskRoom, Rule, read_by_clocks};
 use kryo_stream::CaptureFault;
 
-/// Reads the next stream as one more that captures the started track, and notes all its readings after those before, as those
-/// of this capture. No answer is for want of memory.
+/// Reads the next stream as one more that captures the started track, and notes all its readings after those before, as
+/// those of this capture. No answer is for want of memory.
 ///
 /// At most 32 streams are read for one track, and a room is not used again for reading after a fault.
 pub fn read_capture<S: Source>(
@@ -27,10 +27,12 @@ pub fn read_capture<S: Source>(
     requires started { number ≡ room.old.started }
     requires few { room.old.captures < MOST_SOURCES }
     requires sound { room.old.failed ≡ false }
-    ensures read { ReadsCapture room.old.format (track_at room.old.format number) capture (S.left source.old) (S.left source.new) room.old.used room.old.held room.new.held room.old.book room.new.book result }
+    ensures read { ReadsCapture room.old.format (track_at room.old.format number) capture (S.left source.old)
+        (S.left source.new) room.old.used room.old.held room.new.held room.old.book room.new.book result }
 
     // The source is read only where the bytes at hand do not tell the answer.
-    ensures needed { IsReadWhereNeeded (reads_at S.Source source.old) (reads_at S.Source source.new) room.old.used room.old.held }
+    ensures needed { IsReadWhereNeeded (reads_at S.Source source.old) (reads_at S.Source source.new) room.old.used
+        room.old.held }
 
     // The room after the call.
     ensures format { room.new.format ≡ room.old.format }

@@ -10,10 +10,10 @@ use law_captured_disks::written_disks_are_captured;
 use law_decoded_rings::own_sectors_are_right;
 use sector_images::{sectors_fill_tracks, sectors_lie_in_images, tracks_fill_images};
 
-/// From any streams that carry an image's written tracks, with transitions and speed disturbed within the bounds, decoding
-/// gives exactly that image, and every sector's line says good. Where stretches of the tracks are erased, a sector of which
-/// one place lies whole between them is kept; every other one is kept or lost, with zeros in its place, and none is
-/// contradictory.
+/// From any streams that carry an image's written tracks, with transitions and speed disturbed within the bounds,
+/// decoding gives exactly that image, and every sector's line says good. Where stretches of the tracks are erased, a
+/// sector of which one place lies whole between them is kept; every other one is kept or lost, with zeros in its
+/// place, and none is contradictory.
 pub fn captured_disks_decode()
     ensures whole { CapturedDisksDecode }
     ensures erased { ErasedDisksDecode }

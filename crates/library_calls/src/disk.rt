@@ -1,7 +1,8 @@
 ghost use Rattle.std.specs.Prelude.{◌≡◌, ℕ, ◌≤◌, List, Some};
 ghost use Rattle.flux_base.specs.Blames.{CountsBy};
 ghost use Rattle.flux_base.specs.World.{counts_at};
-ghost use Rattle.library_calls.specs.Answers.{DecodesDisk, SaysOfInput, EngineCause, IsWholeOrRefused, engine_blame, EndsInStreams, engine_answer as engine_answer_of};
+ghost use Rattle.library_calls.specs.Answers.{DecodesDisk, SaysOfInput, EngineCause, IsWholeOrRefused, engine_blame};
+ghost use Rattle.library_calls.specs.Answers.{EndsInStreams, engine_answer as engine_answer_of};
 ghost use Rattle.flux_engine.specs.Answers.{Stayed};
 ghost use Rattle.flux_engine.specs.Needed.{ReadsWhereOpen};
 ghost use Rattle.flux_engine.specs.Room.{fresh};
@@ -24,19 +25,26 @@ pub fn decode_disk<S: Source, W: Sink, N: Sink>(
     notes: &mut N,
 ) -> Result<Totals, EngineFault>
     requires { room.old ≡ fresh room.old.format }
-    ensures decoded { DecodesDisk room.old.format (S.left source.old) (S.left source.new) (W.written image.old) (W.written image.new) (N.written notes.old) (N.written notes.new) result }
-    ensures told { (bytes : List ℕ) → S.left source.old ≡ Some bytes → SaysOfInput room.old.format bytes (S.left source.new) (W.written image.old) (W.written image.new) (N.written notes.old) (N.written notes.new) result }
+    ensures decoded { DecodesDisk room.old.format (S.left source.old) (S.left source.new) (W.written image.old)
+        (W.written image.new) (N.written notes.old) (N.written notes.new) result }
+    ensures told { (bytes : List ℕ) → S.left source.old ≡ Some bytes
+        → SaysOfInput room.old.format bytes (S.left source.new) (W.written image.old) (W.written image.new)
+        (N.written notes.old) (N.written notes.new) result }
 
     // A source that tells its bytes is read only where those that it gave before end inside a stream.
-    ensures needed { (bytes : List ℕ) → S.left source.old ≡ Some bytes → ReadsWhereOpen (EndsInStreams room.old.format) (reads_at S.Source source.old) (reads_at S.Source source.new) }
+    ensures needed { (bytes : List ℕ) → S.left source.old ≡ Some bytes
+        → ReadsWhereOpen (EndsInStreams room.old.format) (reads_at S.Source source.old) (reads_at S.Source source.new) }
 
-    ensures cause { EngineCause (S.faults source.old) (S.faults source.new) (W.faults image.old) (W.faults image.new) (N.faults notes.old) (N.faults notes.new) result }
+    ensures cause { EngineCause (S.faults source.old) (S.faults source.new) (W.faults image.old) (W.faults image.new)
+        (N.faults notes.old) (N.faults notes.new) result }
     ensures blames { CountsBy (engine_blame result)
         (counts_at S.Source W.Sink N.Sink source.old image.old notes.old)
         (counts_at S.Source W.Sink N.Sink source.new image.new notes.new) }
 
     // Over a source and sinks that do not fail there is no other answer.
-    ensures complete { Stayed (S.faults source.old) (S.faults source.new) → Stayed (W.faults image.old) (W.faults image.new) → Stayed (N.faults notes.old) (N.faults notes.new) → IsWholeOrRefused result }
+    ensures complete { Stayed (S.faults source.old) (S.faults source.new)
+        → Stayed (W.faults image.old) (W.faults image.new) → Stayed (N.faults notes.old) (N.faults notes.new)
+        → IsWholeOrRefused result }
     ensures source_later { S.faults source.old ≤ S.faults source.new }
     ensures image_later { W.faults image.old ≤ W.faults image.new }
     ensures notes_later { N.faults notes.old ≤ N.faults notes.new }

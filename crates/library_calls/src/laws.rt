@@ -1,6 +1,8 @@
 //! What the definitions behind `decode_track` and `decode_disk` come to.
 
-ghost use Rattle.library_calls.specs.DiskLaws.{EachHasOneVerdict, GoodIsRightOnDisks, LinesNameVerdicts, LinesTellVerdicts, OthersAreZeros, PartsFitImages, PartsStandAtTheirPlaces, ReportsHaveNoOtherLines, WholeDisksFillImages};
+ghost use Rattle.library_calls.specs.DiskLaws.{EachHasOneVerdict, GoodIsRightOnDisks, LinesNameVerdicts};
+ghost use Rattle.library_calls.specs.DiskLaws.{LinesTellVerdicts, OthersAreZeros, PartsFitImages};
+ghost use Rattle.library_calls.specs.DiskLaws.{PartsStandAtTheirPlaces, ReportsHaveNoOtherLines, WholeDisksFillImages};
 ghost use Rattle.library_calls.specs.Laws.{CutInputsLead, FirstTracksLead, GoodIsRight, OneOutcome, PartsStay};
 
 use disk_recordings::tracks_are_read;
@@ -40,8 +42,8 @@ pub fn good_is_right()
 }
 
 /// A decoded track's part of the image has the track's bytes in number and stands at the track's place in the
-/// whole image, and a disk that is decoded to its end has all bytes of the image. The parts of any first tracks have no more
-/// bytes than the image.
+/// whole image, and a disk that is decoded to its end has all bytes of the image. The parts of any first tracks
+/// have no more bytes than the image.
 pub fn parts_fill_images()
     ensures parts { PartsStandAtTheirPlaces }
     ensures whole { WholeDisksFillImages }

@@ -1,8 +1,8 @@
-//! Tracks and disks of which each track has one stream, and sets of streams, each by a call of its own: what a library's user
-//! asks the engine for, where the program asks it by a plan.
+//! Tracks and disks of which each track has one stream, and sets of streams, each by a call of its own: what a
+//! library's user asks the engine for, where the program asks it by a plan.
 //!
-//! Each call is a thin one over the engine's (`flux_engine`), and says in plain words, which no plan is in, what it reads and
-//! writes. The laws say what these words come to, for captured and for written disks too.
+//! Each call is a thin one over the engine's (`flux_engine`), and says in plain words, which no plan is in, what it
+//! reads and writes. The laws say what these words come to, for captured and for written disks too.
 #![tactic(auto)]
 
 mod capture;

@@ -13,9 +13,9 @@ use flux_base::{Sink, Source};
 use flux_engine::{DiskRoom, PlanFault, decode_planned, set_plan};
 use sector_report::Totals;
 
-/// Decodes all tracks of a disk in order, each from so many streams that stand one after another, and then writes the total
-/// line to `notes`. Of each track one verdict for each sector is given over all its captures; its part of the image is
-/// written, a piece for each sector, and then its lines, each in one piece. No answer is for want of memory.
+/// Decodes all tracks of a disk in order, each from so many streams that stand one after another, and then writes the
+/// total line to `notes`. Of each track one verdict for each sector is given over all its captures; its part of the
+/// image is written, a piece for each sector, and then its lines, each in one piece. No answer is for want of memory.
 ///
 /// What stands after the last stream is not looked at. After a fault nothing more is read or written, and
 /// the tracks before are written whole. `Refused` names the first stream with a fault.
@@ -29,19 +29,27 @@ pub fn decode_set<S: Source, W: Sink, N: Sink>(
     requires fresh { room.old ≡ fresh room.old.format }
     requires some { 1 ≤ count }
     requires few { count ≤ 16 }
-    ensures decoded { DecodesSet room.old.format count (S.left source.old) (S.left source.new) (W.written image.old) (W.written image.new) (N.written notes.old) (N.written notes.new) result }
-    ensures told { (bytes : List ℕ) → S.left source.old ≡ Some bytes → SaysOfSetInput room.old.format count bytes (S.left source.new) (W.written image.old) (W.written image.new) (N.written notes.old) (N.written notes.new) result }
+    ensures decoded { DecodesSet room.old.format count (S.left source.old) (S.left source.new) (W.written image.old)
+        (W.written image.new) (N.written notes.old) (N.written notes.new) result }
+    ensures told { (bytes : List ℕ) → S.left source.old ≡ Some bytes
+        → SaysOfSetInput room.old.format count bytes (S.left source.new) (W.written image.old) (W.written image.new)
+        (N.written notes.old) (N.written notes.new) result }
 
     // A source that tells its bytes is read only where those that it gave before end inside a stream.
-    ensures needed { (bytes : List ℕ) → S.left source.old ≡ Some bytes → ReadsWhereOpen (EndsInCaptures room.old.format count) (reads_at S.Source source.old) (reads_at S.Source source.new) }
+    ensures needed { (bytes : List ℕ) → S.left source.old ≡ Some bytes
+        → ReadsWhereOpen (EndsInCaptures room.old.format count) (reads_at S.Source source.old)
+        (reads_at S.Source source.new) }
 
-    ensures cause { SetCause (S.faults source.old) (S.faults source.new) (W.faults image.old) (W.faults image.new) (N.faults notes.old) (N.faults notes.new) result }
+    ensures cause { SetCause (S.faults source.old) (S.faults source.new) (W.faults image.old) (W.faults image.new)
+        (N.faults notes.old) (N.faults notes.new) result }
     ensures blames { CountsBy (plan_blame result)
         (counts_at S.Source W.Sink N.Sink source.old image.old notes.old)
         (counts_at S.Source W.Sink N.Sink source.new image.new notes.new) }
 
     // Over a source and sinks that do not fail there is no other answer.
-    ensures complete { Stayed (S.faults source.old) (S.faults source.new) → Stayed (W.faults image.old) (W.faults image.new) → Stayed (N.faults notes.old) (N.faults notes.new) → IsWholeOrRefused result }
+    ensures complete { Stayed (S.faults source.old) (S.faults source.new)
+        → Stayed (W.faults image.old) (W.faults image.new) → Stayed (N.faults notes.old) (N.faults notes.new)
+        → IsWholeOrRefused result }
     ensures source_later { S.faults source.old ≤ S.faults source.new }
     ensures image_later { W.faults image.old ≤ W.faults image.new }
     ensures notes_later { N.faults notes.old ≤ N.faults notes.new }

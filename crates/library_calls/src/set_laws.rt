@@ -16,8 +16,9 @@ pub fn sets_of_one_are_decoded()
     ensures { SetsOfOneAreDecoded }
 {}
 
-/// A sector of a set is called good only where the capture, turn and place that are named have cells that hold it, with the
-/// bytes that the image has of it; and all places of all captures of the track that hold the sector hold these bytes.
+/// A sector of a set is called good only where the capture, turn and place that are named have cells that
+/// hold it, with the bytes that the image has of it; and all places of all captures of the track that
+/// hold the sector hold these bytes.
 pub fn good_is_right_in_sets()
     ensures { GoodIsRightInSets }
 {

@@ -35,10 +35,13 @@ pub fn decode_track<S: Source, W: Sink, N: Sink>(
     requires next { number ≡ room.old.next }
     requires track { number < length (tracks room.old.format) }
     requires sound { room.old.failed ≡ false }
-    ensures decoded { DecodesTrack room.old.format (track_at room.old.format number) number (S.left source.old) (S.left source.new) room.old.used room.old.held room.new.held (W.written image.old) (W.written image.new) (N.written notes.old) (N.written notes.new) result }
+    ensures decoded { DecodesTrack room.old.format (track_at room.old.format number) number (S.left source.old)
+        (S.left source.new) room.old.used room.old.held room.new.held (W.written image.old) (W.written image.new)
+        (N.written notes.old) (N.written notes.new) result }
 
     // The source is read only where the bytes at hand do not tell the answer.
-    ensures needed { IsReadWhereNeeded (reads_at S.Source source.old) (reads_at S.Source source.new) room.old.used room.old.held }
+    ensures needed { IsReadWhereNeeded (reads_at S.Source source.old) (reads_at S.Source source.new) room.old.used
+        room.old.held }
 
     // The room after the call.
     ensures format { room.new.format ≡ room.old.format }
@@ -49,7 +52,8 @@ pub fn decode_track<S: Source, W: Sink, N: Sink>(
     ensures sound { OnOk result (room.new.failed ≡ false) }
     ensures failed { OnErr result (room.new.failed ≡ true) }
 
-    ensures cause { EngineCause (S.faults source.old) (S.faults source.new) (W.faults image.old) (W.faults image.new) (N.faults notes.old) (N.faults notes.new) result }
+    ensures cause { EngineCause (S.faults source.old) (S.faults source.new) (W.faults image.old) (W.faults image.new)
+        (N.faults notes.old) (N.faults notes.new) result }
     ensures blames { CountsBy (engine_blame result)
         (counts_at S.Source W.Sink N.Sink source.old image.old notes.old)
         (counts_at S.Source W.Sink N.Sink source.new image.new notes.new) }

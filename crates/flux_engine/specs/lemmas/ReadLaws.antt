@@ -1,5 +1,6 @@
 -- Reads that are made one after the other, each where the answer was open.
-use Rattle.std.specs.Prelude.{◌≡◌, ◌<◌, ℕ, ◌+◌, ◌-◌, List, [], ◌∷◌, ◌++◌, length, take, Option, Some, None, refl}
+use Rattle.std.specs.Prelude.{◌≡◌, ◌<◌, ℕ, ◌+◌, ◌-◌, List, [], ◌∷◌, ◌++◌, length, take, Option}
+use Rattle.std.specs.Prelude.{Some, None, refl}
 use Rattle.std.specs.List.{concat}
 use Rattle.std.specs.Io.KnownBytes.{Consumes}
 use Rattle.std.proofs.Common.{ap, sym, subst, ◌∙◌, arith, inl, inr, length-append}
@@ -30,12 +31,16 @@ no_reads IsOpen m = record {
 }
 
 -- these pieces were given after others
-abbrev pub GaveMore : (IsOpen : List ℕ → Type 0) (old new : SourceMoment) (before : List ℕ) (qs : List (List ℕ)) → Type 0
+abbrev pub GaveMore : (IsOpen : List ℕ → Type 0) (old new : SourceMoment) (before : List ℕ)
+    (qs : List (List ℕ))
+    → Type 0
 GaveMore IsOpen old new before qs =
-    Gives old.given new.given qs × Consumes old.left new.left (concat qs) × ((k : ℕ) → k < length qs → IsOpen (before ++ concat (take k qs)))
+    Gives old.given new.given qs × Consumes old.left new.left (concat qs)
+    × ((k : ℕ) → k < length qs → IsOpen (before ++ concat (take k qs)))
     × (qs ≡ [] → new.faults ≡ old.faults)
 
-unfoldable pub reads_more : (IsOpen : List ℕ → Type 0) (old mid new : SourceMoment) (r : ReadsWhereOpen IsOpen old mid) (qs : List (List ℕ))
+unfoldable pub reads_more : (IsOpen : List ℕ → Type 0) (old mid new : SourceMoment)
+    (r : ReadsWhereOpen IsOpen old mid) (qs : List (List ℕ))
     → GaveMore IsOpen mid new (concat r.pieces) qs → ReadsWhereOpen IsOpen old new
 reads_more IsOpen old mid new r qs more = record {
   pieces = r.pieces ++ qs;
@@ -44,13 +49,16 @@ reads_more IsOpen old mid new r qs more = record {
       (Consumes-trans old.left mid.left new.left (concat r.pieces) (concat qs) r.consumed more.1);
   needed = λ k below.
       elim (cases_lt k (length r.pieces)) [
-        | inl before ↦ subst IsOpen (ap concat (sym (take-append-le k r.pieces qs (omega (arith, before))))) (r.needed k before)
+        | inl before ↦
+            subst IsOpen (ap concat (sym (take-append-le k r.pieces qs (omega (arith, before)))))
+            (r.needed k before)
         | inr least ↦
             let j : ℕ = k - length r.pieces in
             let at : k ≡ length r.pieces + j = omega (arith, least) in
             let low : j < length qs = omega (arith, at, below, length-append r.pieces qs) in
             let same : concat (take k (r.pieces ++ qs)) ≡ concat r.pieces ++ concat (take j qs) =
-            ap (λ n. concat (take n (r.pieces ++ qs))) at ∙ ap concat (take-append-add r.pieces qs j) ∙ concat-append r.pieces (take j qs) in
+            ap (λ n. concat (take n (r.pieces ++ qs))) at
+            ∙ ap concat (take-append-add r.pieces qs j) ∙ concat-append r.pieces (take j qs) in
             subst IsOpen (sym same) (more.2 j low)
       ];
   still = λ none. let each = both_none r.pieces qs none in more.3 each.1 ∙ r.still each.0;
@@ -62,7 +70,8 @@ pub record Rest (x : List ℕ) (left' : Option (List ℕ)) (taken : List ℕ) : 
   pub left : left' ≡ Some rest
   pub all : x ≡ taken ++ rest
 
-pub rest_of : (x taken : List ℕ) (left' : Option (List ℕ)) → Consumes (Some x) left' taken → Rest x left' taken
+pub rest_of : (x taken : List ℕ) (left' : Option (List ℕ)) → Consumes (Some x) left' taken
+    → Rest x left' taken
 rest_of x taken None consumed = absurd consumed
 rest_of x taken (Some rest) consumed = record { rest = rest; left = refl; all = consumed }
 

@@ -6,7 +6,8 @@ use Rattle.sector_images.specs.Places.{IsTrack, tracks}
 use Rattle.sector_images.specs.declared.format.Format.{Format}
 use Rattle.flux_engine.specs.Recordings.{track_at}
 
-module _ (format : Format) (number : ℕ) (track : TrackId) (at : slice_get (tracks format) number ≡ Some track) where
+module _ (format : Format) (number : ℕ) (track : TrackId)
+    (at : slice_get (tracks format) number ≡ Some track) where
   pub is_track_at : track_at format number ≡ track
   is_track_at = ap (λ (o : Option TrackId). unwrap_or o (record { cylinder = 0; head = 0 })) at
 
