@@ -63,8 +63,11 @@ const C1541_DISK: &str = "Commodore 1541, 35 cylinders, 21 to 17 sectors";
 const C1541_FORTY_DISK: &str = "Commodore 1541, 40 cylinders, 21 to 17 sectors";
 
 const C1571_DISK: &str = "Commodore 1571, 35 cylinders, 2 heads, 21 to 17 sectors";
+
 const C8050_DISK: &str = "Commodore 8050, 5.25-inch, 77 cylinders, 29 to 23 sectors";
+
 const C8250_DISK: &str = "Commodore 8250, 5.25-inch, 77 cylinders, 2 heads, 29 to 23 sectors";
+
 const C1581_DISK: &str = "Commodore 1581, 3.5-inch, 80 cylinders, 2 heads, 10 sectors";
 
 const APPLE_DO_DISK: &str =
