@@ -2,9 +2,12 @@ ghost use Rattle.std.specs.Prelude.{◌≡◌, IfOk};
 
 use cell_bits::Cells;
 use flux_base::Memory;
-use sector_images::{Format, image_size, ring_cells, track_id, tracks_keep_bounds};
+use sector_images::{Format, image_size, tracks_keep_bounds};
 use std::alloc::Global;
 use std::marker::Model;
+
+/// The most cells of a track's ring.
+const LONGEST_RING: usize = 262_144;
 
 /// All that writing the streams of an image of one format needs: no answer of a call on it is for want of memory.
 ///
@@ -38,8 +41,7 @@ impl WriteRoom {
         tracks_keep_bounds();
         let image = vec![in alloc; 0u8; image_size(format) as usize + 1]?;
         let mut ring = Cells::new(alloc);
-        // No track has a longer ring than the first.
-        ring.reserve(ring_cells(format, track_id(format, 0)) as usize)?;
+        ring.reserve(LONGEST_RING)?;
         Ok(WriteRoom {
             format,
             image,
