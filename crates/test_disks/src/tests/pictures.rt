@@ -1,7 +1,7 @@
 //! Pictures, and the fields of which they are made.
 use disk_map::{Layout, field_text, foot_text, map_disk};
 use flux_base::{Memory, MemorySink, MemorySource, TrackId};
-use flux_engine::{DiskRoom, PlanFault};
+use flux_engine::{DiskRoom, PlanFault, decoding_plan};
 use kryo_stream::StreamFault;
 use sector_images::Format;
 use sector_report::{Totals, refused_line};
