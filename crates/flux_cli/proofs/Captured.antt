@@ -78,7 +78,7 @@ module _ (laws : Laws) {S W N H : Type 0} (words : List (List ℕ)) (status : St
         (left ∙ ap Some decodes.input) did.inner did.does.says))
 
     all : GaveOrCutOnShelf Holds status (on_shelf before) (on_shelf after)
-    all = by (did_of laws words status before after ran (a_folder format decodes.folder) tt decodes.words_are).0
+    all = by (did_of laws words status before after ran (a_folder format decodes.folder) decodes.words_are).0
       where
         by : DoesFolder format decodes.folder status (on_shelf before) (on_shelf after) → GaveOrCutOnShelf Holds status (on_shelf before) (on_shelf after)
         by (inl memory) = on_memory status memory.0 memory.1

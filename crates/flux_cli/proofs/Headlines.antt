@@ -16,12 +16,11 @@ use Rattle.g64_image.specs.Layout.{IsCommodore}
 use Rattle.g64_image.specs.declared.fault.G64Fault.{G64Fault}
 use Rattle.law_captured_plans.specs.Headline.{CapturedPlansAreNeverWrong, CapturedPlansAreRead, ErasedPlansAreRead, ErasedPlansStandInOnePiece}
 use Rattle.law_captured_plans.specs.Said.{AreRightLines, GoodLinesAreRight, InputsAreShort, TellsSources}
-use Rattle.sector_images.specs.Formats.{WordsBeginWithLetters, WordsNameFormats}
 use Rattle.sector_images.specs.declared.format.Format.{Format}
 use Rattle.sector_report.specs.declared.totals.Totals.{Totals}
 use Rattle.turn_merge.specs.declared.verdict.Verdict.TheVariants.{Good}
 use Rattle.flux_words.specs.Asked.{Asked, the_turns, some_streams, a_folder, some_dumps, a_sector, an_identity, written_streams, a_trial, a_g64_file, an_image_of_g64, a_page}
-use Rattle.flux_words.specs.CommandWords.{AreWordsOf}
+use Rattle.flux_words.specs.CommandWords.{AreWordsOf, AskOnce}
 use Rattle.flux_words.specs.G64Disks.{format_of}
 use Rattle.flux_cli.specs.AskedDisks.{IsFew, Keeps}
 use Rattle.flux_cli.specs.G64Work.{file_refusal, from_g64_outcome}
@@ -38,12 +37,11 @@ use Rattle.flux_words.specs.declared.commands.Output.{Output}
 use Rattle.flux_words.specs.declared.commands.Output.TheVariants.{ImageAndReport, ReportAlone, Picture}
 use Rattle.flux_words.specs.declared.g64_disk.G64Disk.{G64Disk}
 use Rattle.flux_words.specs.declared.g64_disk.G64Disk.TheVariants.{Tracks35, Tracks40}
-use Rattle.flux_cli.proofs.AskedWords.{IsNoSector, asked_is, asked_keeps}
+use Rattle.flux_cli.proofs.AskedWords.{asked_is, asked_keeps}
 
 -- what the crates below promise
 pub record Laws : Type 0 where
-  pub names : WordsNameFormats
-  pub letters : WordsBeginWithLetters
+  pub once : AskOnce
   pub captured : CapturedPlansAreRead
   pub never_wrong : CapturedPlansAreNeverWrong
   pub erased : ErasedPlansAreRead
@@ -196,29 +194,15 @@ module _ {S W N : Type 0} (before after : Outside S W N) (work : Work) (x : List
   gave_or_cut Memory says = says
   gave_or_cut ShelfFault says = absurd says
 
--- what is asked of the source is no sector of dumps
-no_sector : (asked : Asked) → IsWithBytes (row_of asked) → IsNoSector asked
-no_sector (a_sector asked) source = absurd source
-no_sector the_turns source = tt
-no_sector (some_streams asked) source = tt
-no_sector (a_folder format folder) source = tt
-no_sector (some_dumps asked) source = tt
-no_sector (an_identity dump) source = tt
-no_sector (written_streams format) source = tt
-no_sector (a_trial format seed) source = tt
-no_sector (a_g64_file disk) source = tt
-no_sector (an_image_of_g64 disk) source = tt
-no_sector (a_page page) source = tt
-
 module _ (laws : Laws) {S W N H : Type 0} (words : List (List ℕ)) (status : Status) (before after : World S W N H) (ran : Ran words status before after) where
   -- what was done for what the words ask
-  pub did_of : (asked : Asked) → IsNoSector asked → AreWordsOf asked words → DoesRow (row_of asked) status before after
-  did_of asked free are =
-      subst (λ (a : Option Asked). DoesRow (row_for words a) status before after) (asked_is laws.names laws.letters words asked ran.asked free are ran.asks) ran.did
+  pub did_of : (asked : Asked) → AreWordsOf asked words → DoesRow (row_of asked) status before after
+  did_of asked are =
+      subst (λ (a : Option Asked). DoesRow (row_for words a) status before after) (asked_is laws.once words asked ran.asked are ran.asks) ran.did
 
   pub runs_as_expected : RunsAsExpected words status before.outside after.outside
   runs_as_expected asked x source are told =
-      by (row_of asked) source (λ o gives. expected laws x o asked (asked_keeps words asked are) gives) (did_of asked (no_sector asked source) are)
+      by (row_of asked) source (λ o gives. expected laws x o asked (asked_keeps words asked are) gives) (did_of asked are)
     where
       by : (row : Row) → IsWithBytes row → ((o : Outcome) → GivesOf row x o → IsExpected asked x o) → DoesRow row status before after
           → GaveOrCut (IsExpected asked x) status before.outside after.outside

@@ -8,14 +8,13 @@ use Rattle.flux_engine.specs.Tracks.{part_by}
 use Rattle.flux_engine.specs.declared.plan.Plan.{Plan}
 use Rattle.flux_trial.specs.Tracks.{IsTrialLine, trial_input}
 use Rattle.g64_image.specs.Laws.{OneFileDisk}
-use Rattle.sector_images.specs.Formats.{WordsBeginWithLetters, WordsNameFormats}
 use Rattle.sector_images.specs.Places.{tracks}
 use Rattle.sector_images.specs.declared.format.Format.{Format}
 use Rattle.sector_report.specs.Lines.{trial_text}
 use Rattle.flux_words.specs.Asked.{Asked, the_turns, some_streams, a_folder, some_dumps, a_sector, an_identity, written_streams, a_trial, a_g64_file, an_image_of_g64, a_page}
-use Rattle.flux_words.specs.CommandWords.{AskFor}
+use Rattle.flux_words.specs.CommandWords.{AskFor, AskOnce}
 use Rattle.flux_words.specs.G64Disks.{format_of}
-use Rattle.flux_cli.proofs.AskedWords.{IsNoSector, asked_is}
+use Rattle.flux_cli.proofs.AskedWords.{asked_is}
 use Rattle.flux_cli.specs.G64Work.{from_g64_outcome}
 use Rattle.flux_cli.specs.PlanWork.{part_shown, planned_outcome, planned_work}
 use Rattle.flux_cli.specs.Work.{Outcome}
@@ -31,7 +30,7 @@ one_line one format seed a b first second =
     (one decoding (part_by Unnamed) format (streams_in decoding (trial_input format seed)) first.decoded second.decoded first.is second.is)
     ∙ sym second.line_is
 
-module _ (names : WordsNameFormats) (letters : WordsBeginWithLetters) (one_file : OneFileDisk) (one_plan : OnePlanned) where
+module _ (once : AskOnce) (one_file : OneFileDisk) (one_plan : OnePlanned) where
   one_of_plan : (plan : Plan) (output : Output) (format : Format) (x : List ℕ) (a b : Outcome) → (planned_work plan output format).gives x a → (planned_work plan output format).gives x b → a ≡ b
   one_of_plan plan output format x a b first second =
       first.2 ∙ ap (planned_outcome output plan.naming format) (one_plan plan (part_shown output plan.naming) format (streams_in plan x) first.0 second.0 first.1 second.1) ∙ sym second.2
@@ -51,19 +50,6 @@ module _ (names : WordsNameFormats) (letters : WordsBeginWithLetters) (one_file 
       first.2 ∙ ap from_g64_outcome (one_file (format_of disk) x first.0 second.0 first.1 second.1) ∙ sym second.2
   one_of (a_page page) x a b first second = first ∙ sym second
 
-  no_sector : (asked : Asked) (x : List ℕ) (a : Outcome) → GivesOf (row_of asked) x a → IsNoSector asked
-  no_sector the_turns x a gives = tt
-  no_sector (some_streams asked) x a gives = tt
-  no_sector (a_folder format folder) x a gives = tt
-  no_sector (some_dumps asked) x a gives = tt
-  no_sector (a_sector asked) x a gives = absurd gives
-  no_sector (an_identity dump) x a gives = tt
-  no_sector (written_streams format) x a gives = tt
-  no_sector (a_trial format seed) x a gives = tt
-  no_sector (a_g64_file disk) x a gives = tt
-  no_sector (an_image_of_g64 disk) x a gives = tt
-  no_sector (a_page page) x a gives = tt
-
   pub one_outcome : (words : List (List ℕ)) (x : List ℕ) (a b : Outcome) → IsOutcome words x a → IsOutcome words x b → a ≡ b
   one_outcome words x a b first second = by first.0 second.0 first.1 second.1 first.2 second.2
     where
@@ -72,4 +58,4 @@ module _ (names : WordsNameFormats) (letters : WordsBeginWithLetters) (one_file 
       by None (Some other) none are gives gives' = absurd (none other are)
       by (Some asked) other are asks gives gives' =
           one_of asked x a b gives
-          (subst (λ (o : Option Asked). GivesOf (row_for words o) x b) (asked_is names letters words asked other (no_sector asked x a gives) are asks) gives')
+          (subst (λ (o : Option Asked). GivesOf (row_for words o) x b) (asked_is once words asked other are asks) gives')

@@ -14,7 +14,7 @@ use Rattle.law_reported_dumps.specs.Told.{LinesTell, NoSectorIsToldTwice, Passed
 use Rattle.flux_cli.specs.EmptyText.{empty_text}
 use Rattle.track_shelf.specs.Files.{File}
 use Rattle.flux_words.specs.Asked.{some_dumps}
-use Rattle.flux_words.specs.DumpWords.{CanBeRead, shown_of}
+use Rattle.flux_words.specs.DumpWords.{CanBeRead}
 use Rattle.flux_cli.specs.AskedDisks.{asked_disk}
 use Rattle.flux_engine.specs.Plans.{Seen}
 use Rattle.flux_cli.specs.ReadHeadline.{GaveDumpsOrCut, GaveEmpty, GaveShown, OfDumps, ReadsAsExpected}
@@ -24,8 +24,8 @@ use Rattle.flux_cli.specs.ShelfRuns.{Ran}
 use Rattle.flux_cli.specs.ShelfWork.{FinishedOnShelf, FirstEmpty, SaysOnShelf, TellsEmpty}
 use Rattle.flux_cli.specs.Work.{Got}
 use Rattle.flux_cli.specs.World.{OnShelf, now_at, World, on_shelf}
-use Rattle.flux_words.specs.declared.dump_words.Shown.{Shown}
-use Rattle.flux_words.specs.declared.dump_words.Shown.TheVariants.{Image, Picture}
+use Rattle.flux_words.specs.declared.options.Shown.{Shown}
+use Rattle.flux_words.specs.declared.options.Shown.TheVariants.{Image, Picture}
 use Rattle.flux_cli.proofs.AskedWords.{asked_keeps}
 use Rattle.flux_cli.proofs.Headlines.{Laws, did_of}
 
@@ -155,5 +155,5 @@ pub reads_as_expected : DumpLaws → Laws → {S W N H : Type 0} (words : List (
     → Ran words status before after → ReadsAsExpected words status (on_shelf before) (on_shelf after)
 reads_as_expected laws disk_laws words status before after ran asked files are told =
     let can : CanBeRead asked = asked_keeps words (some_dumps asked) are in
-    gave_or_cut laws (asked_disk asked) files (omega (arith, can.most)) (on_shelf before) (on_shelf after) told (shown_of asked.options) status
-    (did_of disk_laws words status before after ran (some_dumps asked) tt are).0.says
+    gave_or_cut laws (asked_disk asked) files (omega (arith, can.most)) (on_shelf before) (on_shelf after) told asked.shown status
+    (did_of disk_laws words status before after ran (some_dumps asked) are).0.says

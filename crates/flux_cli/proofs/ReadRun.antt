@@ -28,8 +28,8 @@ use Rattle.flux_cli.specs.ReadRuns.{AreFailedAlike, FailedAsRead, IsOutcomeOfDum
 use Rattle.flux_cli.specs.ShelfWork.{DidOnShelf, empty_outcome}
 use Rattle.flux_cli.specs.Work.{Got, Growth, Outcome}
 use Rattle.flux_cli.specs.World.{OnShelf}
-use Rattle.flux_words.specs.declared.dump_words.Shown.{Shown}
-use Rattle.flux_words.specs.declared.dump_words.Shown.TheVariants.{Image, Picture}
+use Rattle.flux_words.specs.declared.options.Shown.{Shown}
+use Rattle.flux_words.specs.declared.options.Shown.TheVariants.{Image, Picture}
 
 -- what was done in a room that was made for the disk's format
 pub in_room : {H W N : Type 0} (shown : Shown) (disk : DumpDisk) (before after : OnShelf H W N) (held : Format) (status : Status) → held ≡ disk.format

@@ -8,7 +8,7 @@ use Rattle.flux_engine.specs.declared.plan.Clocks.TheVariants.{Both}
 use Rattle.sector_images.specs.Places.{IsSector, tracks}
 use Rattle.flux_words.specs.Asked.{Asked, some_streams, some_dumps, a_sector}
 use Rattle.flux_words.specs.Counts.{IsManyCaptures}
-use Rattle.flux_words.specs.DumpWords.{Asked as AskedDumps, CanBeRead, stepping_of}
+use Rattle.flux_words.specs.DumpWords.{AskedDumps, CanBeRead}
 use Rattle.flux_words.specs.SectorWords.{AskedSector, CanBeShown}
 use Rattle.flux_words.specs.declared.commands.Way.{Way}
 use Rattle.flux_words.specs.declared.commands.Way.TheVariants.{Often}
@@ -17,7 +17,7 @@ use Rattle.sector_copies.specs.Shown.{SectorAsked}
 -- the disk that is to be read
 abbrev pub asked_disk : AskedDumps → DumpDisk
 asked_disk asked =
-    record { stepping = stepping_of asked.options; dumps = asked.dumps; format = asked.format; clocks = Both; looks = Always }
+    record { stepping = asked.stepping; dumps = asked.dumps; format = asked.format; clocks = Both; looks = Always }
 
 -- and the sector that is to be shown of one
 abbrev pub shown_sector : AskedSector → SectorAsked

@@ -26,14 +26,14 @@ use Rattle.track_shelf.specs.Files.{File}
 use Rattle.turn_merge.specs.Readings.{verdict}
 use Rattle.flux_words.specs.Asked.{some_dumps}
 use Rattle.flux_words.specs.CommandWords.{AreWordsOf}
-use Rattle.flux_words.specs.DumpWords.{Asked as AskedDumps, shown_of}
+use Rattle.flux_words.specs.DumpWords.{AskedDumps}
 use Rattle.flux_cli.specs.AskedDisks.{asked_disk}
 use Rattle.flux_cli.specs.ReadRuns.{read_status}
 use Rattle.flux_cli.specs.Runs.{growth}
 use Rattle.flux_cli.specs.Work.{Got}
 use Rattle.flux_cli.specs.World.{OnShelf, now_at}
-use Rattle.flux_words.specs.declared.dump_words.Shown.{Shown}
-use Rattle.flux_words.specs.declared.dump_words.Shown.TheVariants.{Image, Picture}
+use Rattle.flux_words.specs.declared.options.Shown.{Shown}
+use Rattle.flux_words.specs.declared.options.Shown.TheVariants.{Image, Picture}
 
 -- Each sector's line and its bytes in the image are those that all readings of the dumps bear out.
 -- Each line of the report that has the text of a sector's line is that one, at its number, and no
@@ -145,4 +145,4 @@ abbrev pub ReadsAsExpected : {H W N : Type 0} → (words : List (List ℕ)) → 
 ReadsAsExpected words status before after =
     (asked : AskedDumps) (files : List File) → AreWordsOf (some_dumps asked) words
     → before.shelf.files ≡ Some files
-    → GaveDumpsOrCut (shown_of asked.options) (asked_disk asked) files status before after
+    → GaveDumpsOrCut asked.shown (asked_disk asked) files status before after

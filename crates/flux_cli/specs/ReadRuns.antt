@@ -17,8 +17,8 @@ use Rattle.flux_base.specs.declared.status.Status.TheVariants.{NotesFault, Shelf
 use Rattle.flux_engine.specs.Plans.{Seen}
 use Rattle.flux_cli.specs.ShelfWork.{CutInEmpty, IsEmptyOr, ShelfWork}
 use Rattle.flux_cli.specs.Work.{Growth, Outcome, GotNothing}
-use Rattle.flux_words.specs.declared.dump_words.Shown.{Shown}
-use Rattle.flux_words.specs.declared.dump_words.Shown.TheVariants.{Image, Picture}
+use Rattle.flux_words.specs.declared.options.Shown.{Shown}
+use Rattle.flux_words.specs.declared.options.Shown.TheVariants.{Image, Picture}
 
 -- whether a file failed, and else whether the image is all that can be read there
 abbrev pub read_status : DumpTotals → Status

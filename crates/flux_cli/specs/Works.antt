@@ -10,7 +10,6 @@ use Rattle.flux_words.specs.Asked.{Asked, the_turns, some_streams, a_folder, som
 use Rattle.flux_words.specs.Asked.{an_identity, written_streams, a_trial, a_g64_file}
 use Rattle.flux_words.specs.Asked.{an_image_of_g64, a_page}
 use Rattle.flux_words.specs.CommandWords.{AskFor}
-use Rattle.flux_words.specs.DumpWords.{shown_of}
 use Rattle.flux_words.specs.declared.commands.Way.{Way}
 use Rattle.flux_words.specs.declared.commands.Way.TheVariants.{Once, Often, ByBothClocks}
 use Rattle.flux_cli.specs.AskedDisks.{asked_disk, shown_sector}
@@ -70,7 +69,7 @@ row_of the_turns = with_bytes turns_work
 row_of (some_streams asked) =
     with_bytes (planned_work (plan_of asked.way) asked.output asked.format)
 row_of (a_folder format folder) = with_folder format folder
-row_of (some_dumps asked) = with_files (read_work (shown_of asked.options) (asked_disk asked))
+row_of (some_dumps asked) = with_files (read_work asked.shown (asked_disk asked))
 row_of (a_sector asked) = with_files (sector_work (shown_sector asked))
 row_of (an_identity dump) = with_files (identity_work dump)
 row_of (written_streams format) = with_bytes (write_work format)

@@ -8,18 +8,18 @@ ghost use Rattle.flux_cli.specs.IdentityRuns.{FailedAsIdentified, IsOutcomeOfDum
 ghost use Rattle.flux_cli.specs.SectorRuns.{FailedAsShown, IsOutcomeOfSector, ReadingsOfShown};
 ghost use Rattle.flux_cli.specs.Work.{Outcome};
 ghost use Rattle.flux_cli.specs.Works.{IsOutcome};
-ghost use Rattle.flux_words.specs.declared.dump_words.Shown.{Shown};
+ghost use Rattle.flux_words.specs.declared.options.Shown.{Shown};
 ghost use Rattle.sector_copies.specs.Shown.{SectorAsked};
 ghost use Rattle.track_shelf.specs.Files.{File};
 ghost use Rattle.turn_merge.specs.Readings.{NotedReading};
 
-use sector_images::words_name_formats;
+use flux_words::words_ask_once;
 
 /// The words and the input decide the outcome: there is one at most.
 pub fn outcomes_are_one()
     ensures { (words : List (List ℕ)) (x : List ℕ) (a b : Outcome) → IsOutcome words x a → IsOutcome words x b → a ≡ b }
 {
-    words_name_formats();
+    words_ask_once();
     g64_image::file_disks_are_one();
     flux_engine::plans_are_right()
 }

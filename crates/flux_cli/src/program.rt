@@ -12,13 +12,12 @@ use disk_map::dumps_are_drawn_as_reported;
 use flux_base::{Sink, Source, Status, Word};
 use flux_help::write_wrong_words;
 use flux_trial::whole_trials_have_one_line;
-use flux_words::{Command, command_of};
+use flux_words::{Command, command_of, words_ask_once};
 use g64_image::{file_lines_tell, good_is_right_in_files, written_files_come_back};
 use law_captured_dumps::captured_dumps_are_read;
 use law_captured_plans::{captured_plans_are_read, planned_lines_tell};
 use law_read_dumps::{complete_dumps_are_all_read, dump_reports_have_lines, dumps_say_each_sector};
 use law_reported_dumps::dump_lines_tell;
-use sector_images::words_name_formats;
 use std::alloc::Global;
 use track_shelf::Shelf;
 
@@ -54,7 +53,7 @@ pub fn run<S: Source, W: Sink, N: Sink, H: Shelf>(
         (world_at S.Source W.Sink N.Sink H.Source H.Shelf.own source.old image.old notes.old shelf.old)
         (world_at S.Source W.Sink N.Sink H.Source H.Shelf.own source.new image.new notes.new shelf.new) }
 {
-    words_name_formats();
+    words_ask_once();
     captured_plans_are_read();
     planned_lines_tell();
     written_files_come_back();

@@ -4,7 +4,7 @@ ghost use Rattle.std.specs.Prelude.{◌≢◌};
 ghost use Rattle.flux_base.specs.declared.status.Status.{Status};
 ghost use Rattle.flux_base.specs.World.{counts_at};
 ghost use Rattle.flux_cli.specs.Blamed.{CountsOnShelf, over_dumps};
-ghost use Rattle.flux_words.specs.DumpWords.{asked_of};
+ghost use Rattle.flux_words.specs.DumpWords.{asked_dumps};
 ghost use Rattle.flux_words.specs.SectorWords.{asked_sector};
 ghost use Rattle.flux_cli.specs.AskedDisks.{Keeps};
 ghost use Rattle.flux_cli.specs.ShelfRuns.{DoesOnShelf};
@@ -70,15 +70,15 @@ impl<H: Shelf, W: Sink, N: Sink> ShelfTask<H, W, N> for DecodeFolder<'_> {
 
 /// Reads a disk of its dumps, to its image and its report or to a picture.
 impl<H: Shelf, W: Sink, N: Sink> ShelfTask<H, W, N> for DumpsAsked<'_> {
-    ghost asked = { λ task. some_dumps (asked_of task) };
+    ghost asked = { λ task. some_dumps (asked_dumps task) };
 
     fn run(&self, alloc: Global, shelf: &mut H, image: &mut W, notes: &mut N) -> Status {
         let dumps = Dumps {
             names: self.dumps,
-            stepping: self.options.stepping(),
+            stepping: self.stepping,
         };
         match DiskRoom::reserve(alloc, self.format) {
-            Ok(mut room) => show(self.options.shown(), &dumps, &mut room, shelf, image, notes),
+            Ok(mut room) => show(self.shown, &dumps, &mut room, shelf, image, notes),
             Err(Memory) => Status::Memory,
         }
     }

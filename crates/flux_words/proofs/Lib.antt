@@ -1,3 +1,4 @@
+pub mod OptionWords
 pub mod DumpWords
 pub mod SectorWords
 pub mod PeoplesWords

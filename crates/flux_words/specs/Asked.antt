@@ -2,7 +2,7 @@
 use Rattle.std.specs.Prelude.{ℕ, List}
 use Rattle.flux_help.specs.declared.page.Page.{Page}
 use Rattle.sector_images.specs.declared.format.Format.{Format}
-use Rattle.flux_words.specs.DumpWords.{Asked as AskedDumps, asked_of as asked_dumps}
+use Rattle.flux_words.specs.DumpWords.{AskedDumps, asked_dumps}
 use Rattle.flux_words.specs.SectorWords.{AskedSector, asked_sector}
 use Rattle.flux_words.specs.declared.commands.Command.{Command}
 use Rattle.flux_words.specs.declared.commands.Command.TheVariants.{Turns, Streams, Folder, Dumps}

@@ -14,10 +14,10 @@ use Rattle.flux_words.specs.Asked.{Asked, the_turns, some_streams, a_folder, som
 use Rattle.flux_words.specs.Asked.{an_identity, written_streams, a_trial, a_g64_file}
 use Rattle.flux_words.specs.Asked.{an_image_of_g64, a_page}
 use Rattle.flux_words.specs.Counts.{IsCount}
-use Rattle.flux_words.specs.DumpParts.{AreWordsBehind}
-use Rattle.flux_words.specs.DumpWords.{Asked as AskedDumps, CanBeRead}
+use Rattle.flux_words.specs.DumpWords.{AskedDumps, AreDumpWords}
 use Rattle.flux_words.specs.G64Disks.{format_of}
-use Rattle.flux_words.specs.SectorWords.{AskedSector, NamesBehind}
+use Rattle.flux_words.specs.Names.{Names}
+use Rattle.flux_words.specs.SectorWords.{AskedSector, AreSectorWords}
 use Rattle.flux_words.specs.Seeds.{IsSeed}
 use Rattle.flux_words.specs.declared.commands.Output.{Output}
 use Rattle.flux_words.specs.declared.commands.Output.TheVariants.{ImageAndReport, ReportAlone}
@@ -58,10 +58,9 @@ AreBehind DecodeFolder others asked =
     (format : Format) × (folder : List ℕ) × IsFormatWith format folder others × (folder ≢ [])
     × (asked ≡ a_folder format folder)
 AreBehind Read others asked =
-    (dumps : AskedDumps) × AreWordsBehind dumps others × CanBeRead dumps
-    × (asked ≡ some_dumps dumps)
+    (dumps : AskedDumps) × AreDumpWords others dumps × (asked ≡ some_dumps dumps)
 AreBehind Show others asked =
-    (sector : AskedSector) × NamesBehind others (Some sector) × (asked ≡ a_sector sector)
+    (sector : AskedSector) × AreSectorWords others sector × (asked ≡ a_sector sector)
 AreBehind Identify others asked =
     (dump : List ℕ) × (others ≡ dump ∷ []) × (dump ≢ []) × (asked ≡ an_identity dump)
 AreBehind Write others asked =
@@ -99,14 +98,14 @@ abbrev pub AreWordsOf : Asked → List (List ℕ) → Type 0
 AreWordsOf asked [] = ⊥
 AreWordsOf asked (first ∷ others) = AreByVerb (verb_of first) first others asked
 
--- what is asked, or nothing where nothing can be
-abbrev pub IsAsked : (Asks : Asked → Type 0) → Option Asked → Type 0
-IsAsked Asks (Some asked) = Asks asked
-IsAsked Asks None = (asked : Asked) → ¬ Asks asked
-
+-- what they ask for behind a verb's; nothing where it can be nothing
 abbrev pub AskBehind : Verb → (others : List (List ℕ)) → Option Asked → Type 0
-AskBehind verb others asked = IsAsked (AreBehind verb others) asked
+AskBehind verb others asked = Names (AreBehind verb others) asked
 
 -- what the words ask for; nothing where they are not those of a command
 abbrev pub AskFor : List (List ℕ) → Option Asked → Type 0
-AskFor words asked = IsAsked (λ asked. AreWordsOf asked words) asked
+AskFor words asked = Names (λ asked. AreWordsOf asked words) asked
+
+-- words ask for one thing at most
+abbrev pub AskOnce : Type 0
+AskOnce = (words : List (List ℕ)) (a b : Asked) → AreWordsOf a words → AreWordsOf b words → a ≡ b

@@ -1,9 +1,9 @@
+pub mod Names
 pub mod G64Disks
 pub mod Seeds
 pub mod Counts
 pub mod Asked
 pub mod CommandWords
+pub mod OptionWords
 pub mod DumpWords
-pub mod DumpParts
 pub mod SectorWords
-pub mod lemmas

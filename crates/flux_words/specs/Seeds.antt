@@ -1,5 +1,5 @@
 -- The seed of a trial, as a word of the command line.
-use Rattle.std.specs.Prelude.{◌≡◌, ◌≤◌, ◌<◌, ◌^◌, ℕ, List, length, Option, Some, None}
+use Rattle.std.specs.Prelude.{◌≡◌, ◌≤◌, ◌<◌, ◌^◌, ℕ, List, length}
 use Rattle.std.specs.Str.Parse.{IsNumeral, digits_value}
 
 -- the word is 1 to 10 digits, which write this number, and it has at most 32 bits
@@ -8,8 +8,3 @@ pub record IsSeed (seed : ℕ) (word : List ℕ) : Type 0 where
   pub few : length word ≤ 10
   pub value : digits_value 10 word ≡ seed
   pub fits : seed < 2 ^ 32
-
--- the seed that a word is, if it is one
-abbrev pub NamesSeed : List ℕ → Option ℕ → Type 0
-NamesSeed word (Some seed) = IsSeed seed word
-NamesSeed word None = (seed : ℕ) → ¬ IsSeed seed word

@@ -5,8 +5,9 @@ ghost use Rattle.std.specs.Option.{option_map};
 ghost use Rattle.flux_help.specs.declared.verb.Verb.TheVariants.{DecodeFolder, DecodeSet, FromG64, Help, Identify};
 ghost use Rattle.flux_help.specs.declared.verb.Verb.TheVariants.{Read, Show, ToG64, Trial, Turns, Write};
 ghost use Rattle.flux_words.specs.Asked.{asked_of};
-ghost use Rattle.flux_words.specs.CommandWords.{AreStreams, AskBehind, IsAsked, IsFormat, IsFormatWith};
+ghost use Rattle.flux_words.specs.CommandWords.{AreStreams, AskBehind, IsFormat, IsFormatWith};
 ghost use Rattle.flux_words.specs.G64Disks.{format_of};
+ghost use Rattle.flux_words.specs.Names.{Names};
 ghost use Rattle.flux_words.specs.declared.g64_disk.G64Disk.{G64Disk as Disk};
 ghost use Rattle.sector_images.specs.declared.format.Format.{Format as Kind};
 
@@ -68,7 +69,7 @@ pub(crate) fn turns_behind(others: &[Word]) -> Option<Command<'_>>
 
 /// Streams that are read in this way, to this output.
 pub(crate) fn streams_behind(way: Way, output: Output, others: &[Word]) -> Option<Command<'_>>
-    ensures { IsAsked (AreStreams way output others.now) (option_map asked_of result) }
+    ensures { Names (AreStreams way output others.now) (option_map asked_of result) }
 {
     match format_in(others) {
         Some(format) => Some(Command::Streams(StreamsAsked {

@@ -4,7 +4,8 @@ ghost use Rattle.std.specs.Prelude.{IfNone, IfSome};
 ghost use Rattle.std.specs.Option.{option_map};
 ghost use Rattle.flux_help.specs.declared.page.Page.{Page as PageKind};
 ghost use Rattle.flux_words.specs.Asked.{asked_of};
-ghost use Rattle.flux_words.specs.CommandWords.{AskBehind, AskFor, IsAsked, IsDashed, IsPageWord};
+ghost use Rattle.flux_words.specs.CommandWords.{AskBehind, AskFor, AskOnce, IsDashed, IsPageWord};
+ghost use Rattle.flux_words.specs.Names.{Names};
 
 use crate::behind::{
     dump_behind, dumps_behind, folder_behind, from_g64_behind, page_behind, sector_behind,
@@ -15,7 +16,7 @@ use crate::g64_disk::G64Disk;
 use crate::sector_words::ShowAsked;
 use flux_base::Word;
 use flux_help::{Page, Verb};
-use sector_images::Format;
+use sector_images::{Format, words_name_formats};
 
 /// What the words ask for.
 #[derive(Clone, Copy)]
@@ -112,7 +113,7 @@ fn command_behind(verb: Verb, others: &[Word]) -> Option<Command<'_>>
 
 /// The page that a word with a dash asks for, if it stands alone.
 fn command_dashed<'a>(first: &[u8], others: &'a [Word]) -> Option<Command<'a>>
-    ensures { IsAsked (IsDashed first.now others.now) (option_map asked_of result) }
+    ensures { Names (IsDashed first.now others.now) (option_map asked_of result) }
 {
     match others {
         [] => match page_of(first) {
@@ -137,4 +138,11 @@ fn page_of(first: &[u8]) -> Option<Page>
     } else {
         None
     }
+}
+
+/// Words ask for one thing at most.
+pub fn words_ask_once()
+    ensures { AskOnce }
+{
+    words_name_formats();
 }

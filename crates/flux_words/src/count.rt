@@ -1,4 +1,6 @@
-ghost use Rattle.flux_words.specs.Counts.{IsMaybeCount, NamesCount};
+ghost use Rattle.std.specs.Prelude.{◌≡◌};
+ghost use Rattle.flux_words.specs.Counts.{IsCount, IsManyCaptures};
+ghost use Rattle.flux_words.specs.Names.{Names};
 
 use crate::seed::number_of;
 
@@ -10,7 +12,7 @@ const MOST_CAPTURES: u32 = 16;
 
 /// The number that a word of one or two digits writes, if it is 1 to 16.
 pub(crate) fn count_of(word: &[u8]) -> Option<u32>
-    ensures { NamesCount word.now result }
+    ensures { Names (λ count. IsCount count word.now) result }
 {
     if word.len() > MOST_DIGITS {
         return None;
@@ -23,7 +25,7 @@ pub(crate) fn count_of(word: &[u8]) -> Option<u32>
 
 /// So many captures, if there is one and there are not too many.
 fn captures_of(count: u32) -> Option<u32>
-    ensures { IsMaybeCount count result }
+    ensures { Names (λ many. (many ≡ count) × IsManyCaptures many) result }
 {
     if count == 0 {
         return None;

@@ -6,10 +6,12 @@ mod commands;
 mod count;
 mod dump_words;
 mod g64_disk;
+mod options;
 mod sector_words;
 mod seed;
 
-pub use commands::{Command, Output, StreamsAsked, Way, command_of};
-pub use dump_words::{DumpOptions, DumpsAsked, Shown};
+pub use commands::{Command, Output, StreamsAsked, Way, command_of, words_ask_once};
+pub use dump_words::DumpsAsked;
 pub use g64_disk::G64Disk;
+pub use options::Shown;
 pub use sector_words::{ShowAsked, reports_name_them};

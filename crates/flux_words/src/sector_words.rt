@@ -1,24 +1,23 @@
 //! The words that ask to show a sector of dumps.
 
-ghost use Rattle.std.specs.Prelude.{◌≡◌, ◌≢◌, ◌<◌, ◌≤◌, ◌-◌, ◌++◌, ℕ, IfSome, List, MatchOption, Some, decimal, length};
+ghost use Rattle.std.specs.Prelude.{◌≡◌, ◌≢◌, ◌<◌, ◌≤◌, ◌-◌, ◌++◌, ℕ, IfSome, List, MatchOption, length};
 ghost use Rattle.std.specs.Bool.{Decides};
 ghost use Rattle.std.specs.Option.{option_map};
-ghost use Rattle.flux_words.specs.SectorWords.{AreDigitsOf, HasNumber, IsSectorWord, IsTrackWord, NamesBehind};
-ghost use Rattle.flux_words.specs.SectorWords.{NamesCopy, NamesCopyFirst, NamesCopyNumber, NamesPlace, NamesSector};
-ghost use Rattle.flux_words.specs.SectorWords.{NamesStepped, NamesTrack, ReportsNameThem, asked_sector};
+ghost use Rattle.flux_words.specs.Names.{Names};
+ghost use Rattle.flux_words.specs.OptionWords.{FollowOptions};
+ghost use Rattle.flux_words.specs.SectorWords.{AreDigitsOf, ArePlaceWords, AreSectorWords, IsSectorWord, IsTrackWord};
+ghost use Rattle.flux_words.specs.SectorWords.{NamesSector, NamesTrack, ReportsNameThem, asked_sector, sector_options};
 ghost use Rattle.disk_recordings.specs.TrackSectors.{sectors_of as sectors_in, track_at};
 ghost use Rattle.sector_images.specs.Places.{tracks};
 
-use crate::dump_words::{are_readable, behind};
+use crate::dump_words::are_readable;
+use crate::options::{Options, Shown, options_in};
 use crate::seed::number_of;
 use disk_recordings::sectors_of;
 use flux_base::{TrackId, Word};
 use sector_images::{Format, track_count, track_id, tracks_keep_bounds, words_name_formats};
 use sector_report::{Line, put, put_u32};
 use track_shelf::Stepping;
-
-/// How many contents are kept of a sector at most.
-const MOST_COPIES: u32 = 16;
 
 /// The most digits of a cylinder.
 const CYLINDER_DIGITS: usize = 2;
@@ -43,72 +42,21 @@ pub struct ShowAsked<'a> {
 /// What the words behind the verb's ask for: `[--double-step] [--copy N] FORMAT TRACK SECTOR DUMP...`, with the options
 /// in either order, and the track and the sector as people write them: `5.1` or `05.1`, and `4`, `04` or `004`.
 pub(crate) fn asked_behind(words: &[Word]) -> Option<ShowAsked<'_>>
-    ensures { NamesBehind words.now (option_map asked_sector result) }
+    ensures { Names (AreSectorWords words.now) (option_map asked_sector result) }
 {
     words_name_formats();
-    match behind(words, b"--double-step") {
-        Some(rest) => asked_by(Stepping::Double, rest),
-        None => asked_first(words),
-    }
+    let (options, rest) = options_in(words);
+    asked_with(options, rest)
 }
 
-/// What those behind the steps' ask for.
-fn asked_by(stepping: Stepping, words: &[Word]) -> Option<ShowAsked<'_>>
-    ensures { NamesCopy stepping words.now (option_map asked_sector result) }
+/// What the words from the format's on ask for. A picture is shown of whole disks only.
+fn asked_with(options: Options, words: &[Word]) -> Option<ShowAsked<'_>>
+    ensures { Names (FollowOptions sector_options ArePlaceWords options words.now) (option_map asked_sector result) }
 {
     words_name_formats();
-    match behind(words, b"--copy") {
-        Some(rest) => match numbered(rest) {
-            Some((number, others)) => asked_of_disk(stepping, Some(number), others),
-            None => None,
-        },
-        None => asked_of_disk(stepping, None, words),
-    }
-}
-
-/// What words ask for of which the steps' is not the first: it may stand behind the number of a content.
-fn asked_first(words: &[Word]) -> Option<ShowAsked<'_>>
-    ensures { NamesCopyFirst words.now (option_map asked_sector result) }
-{
-    words_name_formats();
-    match behind(words, b"--copy") {
-        Some(rest) => match numbered(rest) {
-            Some((number, others)) => asked_stepped(number, others),
-            None => None,
-        },
-        None => asked_of_disk(Stepping::Single, None, words),
-    }
-}
-
-/// What the words behind the number of a content ask for.
-fn asked_stepped(number: u32, words: &[Word]) -> Option<ShowAsked<'_>>
-    ensures { NamesStepped (Some number) words.now (option_map asked_sector result) }
-{
-    words_name_formats();
-    match behind(words, b"--double-step") {
-        Some(rest) => asked_of_disk(Stepping::Double, Some(number), rest),
-        None => asked_of_disk(Stepping::Single, Some(number), words),
-    }
-}
-
-/// The number of a content that the first word is, and the words behind it.
-fn numbered(words: &[Word]) -> Option<(u32, &[Word])>
-    ensures { HasNumber words.now (option_map (λ named. (named.0, named.1.now)) result) }
-{
-    let Some((word, others)) = words.split_first() else {
+    let Shown::Image = options.shown else {
         return None;
     };
-    match copy_number(word.bytes()) {
-        Some(number) => Some((number, others)),
-        None => None,
-    }
-}
-
-/// What those from the format's on ask for.
-fn asked_of_disk(stepping: Stepping, alone: Option<u32>, words: &[Word]) -> Option<ShowAsked<'_>>
-    ensures { NamesPlace stepping alone words.now (option_map asked_sector result) }
-{
-    words_name_formats();
     let [word, track, sector, dumps @ ..] = words else {
         return None;
     };
@@ -121,35 +69,14 @@ fn asked_of_disk(stepping: Stepping, alone: Option<u32>, words: &[Word]) -> Opti
     let Some(sector) = sector_number(format, number, sector.bytes()) else {
         return None;
     };
-    are_readable(dumps, stepping, format).then_some(ShowAsked {
-        stepping,
-        alone,
+    are_readable(dumps, options.stepping, format).then_some(ShowAsked {
+        stepping: options.stepping,
+        alone: options.alone,
         format,
         number,
         sector,
         dumps,
     })
-}
-
-/// The number of a content that a word is.
-fn copy_number(word: &[u8]) -> Option<u32>
-    ensures { NamesCopyNumber word.now result }
-{
-    for number in 0..MOST_COPIES {
-        if is_decimal(number, word) {
-            return Some(number);
-        }
-    }
-    None
-}
-
-/// Whether a word is a number.
-fn is_decimal(number: u32, word: &[u8]) -> bool
-    ensures { Decides result (decimal number ≡ word.now) }
-{
-    let mut line = Line::new();
-    put_u32(&mut line, number);
-    line.as_str().as_bytes() == word
 }
 
 /// The number of the track that a word names.

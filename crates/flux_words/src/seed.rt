@@ -1,6 +1,7 @@
 ghost use Rattle.std.specs.Prelude.{◌≡◌, ◌<◌, ◌^◌, IfNone, IfSome};
 ghost use Rattle.std.specs.Str.Parse.{IsNumeral, digits_value};
-ghost use Rattle.flux_words.specs.Seeds.{NamesSeed};
+ghost use Rattle.flux_words.specs.Names.{Names};
+ghost use Rattle.flux_words.specs.Seeds.{IsSeed};
 
 use std::str;
 
@@ -9,7 +10,7 @@ const MOST_DIGITS: usize = 10;
 
 /// The number that a word of 1 to 10 digits writes, if it is at most 4294967295.
 pub(crate) fn seed_of(word: &[u8]) -> Option<u32>
-    ensures { NamesSeed word.now result }
+    ensures { Names (λ seed. IsSeed seed word.now) result }
 {
     if word.len() > MOST_DIGITS {
         return None;

@@ -10,8 +10,7 @@ use Rattle.flux_cli.proofs.program.run.Goals as goal
 
 laws : (g : Over) (c : goal.After-tell_output g) → Laws
 laws g c = record {
-  names = c.words_name_formats.ensures.one;
-  letters = c.words_name_formats.ensures.letters;
+  once = c.words_ask_once.ensures;
   captured = c.captured_plans_are_read.ensures.whole;
   never_wrong = c.captured_plans_are_read.ensures.never_wrong;
   erased = c.captured_plans_are_read.ensures.erased;

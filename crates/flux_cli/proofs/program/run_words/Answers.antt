@@ -5,7 +5,7 @@ use Rattle.flux_base.specs.declared.status.Status.TheVariants.{NotesFault, Shelf
 use Rattle.flux_base.specs.lemmas.Blaming.{CountsBy-notes}
 use Rattle.flux_engine.specs.lemmas.ReadLaws.{no_reads}
 use Rattle.flux_words.specs.Asked.{the_turns, some_streams, a_folder, some_dumps, a_sector, an_identity, written_streams, a_trial, a_g64_file, an_image_of_g64, a_page}
-use Rattle.flux_words.specs.DumpWords.{asked_of as asked_dumps}
+use Rattle.flux_words.specs.DumpWords.{asked_dumps}
 use Rattle.flux_words.specs.SectorWords.{asked_sector}
 use Rattle.flux_cli.proofs.AskedWords.{asked_keeps, asked_over}
 use Rattle.flux_cli.proofs.Blaming.{no-shelf, run-of-shelf, run-of-source}

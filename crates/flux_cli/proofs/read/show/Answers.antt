@@ -5,7 +5,7 @@ use Rattle.flux_cli.proofs.EndingLaws.{IsOverShelf, dumps-blame, shelf-over-shel
 use Rattle.flux_cli.proofs.ReadRun.{draw-answers, draw-did, files-failed, read-answers, read-did, read-done}
 use Rattle.flux_cli.proofs.ShelfEnded.{ends-over, shelf-ended}
 use Rattle.flux_cli.specs.ReadRuns.{read_status, read_work}
-use Rattle.flux_words.specs.declared.dump_words.Shown.TheVariants.{Image, Picture}
+use Rattle.flux_words.specs.declared.options.Shown.TheVariants.{Image, Picture}
 use Rattle.flux_cli.proofs.read.show.Goals as goal
 
 pub returns-in-Image-clause-did : goal.returns-in-Image-clause-did

@@ -1,13 +1,10 @@
-use Rattle.std.proofs.Common.{List, ℕ, length, subst}
 use Rattle.std.specs.Option.{option_map}
-use Rattle.flux_words.specs.DumpParts.{NamesWith, options_in}
-use Rattle.flux_words.specs.DumpWords.{asked_of, option_words}
-use Rattle.flux_words.proofs.DumpWords.{behind-named, slice-rest}
+use Rattle.flux_words.specs.DumpWords.{AreDiskWords, asked_dumps, dump_options}
+use Rattle.flux_words.proofs.DumpWords.{disk-past}
+use Rattle.flux_words.proofs.OptionWords.{all-named}
 use Rattle.flux_words.proofs.dump_words.asked_behind.Goals as goal
 
 pub returns : goal.returns
 returns c =
-    let words = c.args.words.now in
-    behind-named c.words_name_formats.ensures.letters words (option_map asked_of c.asked_with.result)
-    (subst (λ (rest : List (List ℕ)). NamesWith (options_in words) rest (option_map asked_of c.asked_with.result)) (slice-rest words (length (option_words (options_in words))))
-    (rw (c.count.ensures, c.options_in-options.ensures) at c.asked_with.ensures))
+    all-named dump_options AreDiskWords (disk-past c.words_name_formats.ensures.letters) c.args.words.now c.options_in.result.1.now c.options_in.result.0
+    c.options_in.ensures.there c.options_in.ensures.all (option_map asked_dumps c.asked_with.result) c.asked_with.ensures

@@ -1,11 +1,10 @@
 use Rattle.std.specs.Option.{option_map}
-use Rattle.flux_words.specs.SectorWords.{asked_sector}
-use Rattle.flux_words.proofs.SectorWords.{step-named, step-unnamed}
+use Rattle.flux_words.specs.SectorWords.{ArePlaceWords, asked_sector, sector_options}
+use Rattle.flux_words.proofs.OptionWords.{all-named}
+use Rattle.flux_words.proofs.SectorWords.{place-past}
 use Rattle.flux_words.proofs.sector_words.asked_behind.Goals as goal
 
-pub returns-in-Some : goal.returns-in-Some
-returns-in-Some c =
-    step-named c.args.words.now c.words_name_formats.ensures.letters c.in-Some.rest.now (option_map asked_sector c.asked_by.result) c.in-Some.ensures.there c.asked_by.ensures
-
-pub returns-in-None : goal.returns-in-None
-returns-in-None c = step-unnamed c.args.words.now (option_map asked_sector c.asked_first.result) c.in-None.ensures.none c.asked_first.ensures
+pub returns : goal.returns
+returns c =
+    all-named sector_options ArePlaceWords (place-past c.words_name_formats.ensures.letters) c.args.words.now c.options_in.result.1.now c.options_in.result.0
+    c.options_in.ensures.there c.options_in.ensures.all (option_map asked_sector c.asked_with.result) c.asked_with.ensures
