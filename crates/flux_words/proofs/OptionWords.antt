@@ -4,7 +4,8 @@ use Rattle.std.proofs.lemmas.Fmt.{decimal_injective}
 use Rattle.sector_images.specs.Formats.{IsWordOfFormat, WordsBeginWithLetters}
 use Rattle.sector_images.specs.declared.format.Format.{Format}
 use Rattle.flux_words.specs.Names.{Names}
-use Rattle.flux_words.specs.OptionWords.{Adds, AreAllOf, AreChosen, Behind, FollowOptions, HasNumber, HaveOptions, IsChoice, IsNext, IsPast, StandBefore, plain}
+use Rattle.flux_words.specs.OptionWords.{Adds, AreChosen, HaveOptions, IsChoice, StandBefore, plain}
+use Rattle.flux_words.specs.inside.OptionWords.{AreAllOf, Behind, FollowOptions, HasNumber, IsNext, IsPast}
 use Rattle.flux_words.specs.declared.options.Choice.{Choice}
 use Rattle.flux_words.specs.declared.options.Choice.TheVariants.{DoubleStep, Picture, Copy}
 use Rattle.flux_words.specs.declared.options.Options.{Options}

@@ -8,7 +8,7 @@ use Rattle.sector_images.specs.declared.format.Format.{Format}
 use Rattle.track_shelf.specs.declared.stepping.Stepping.{Stepping}
 use Rattle.flux_words.specs.DumpWords.{AreReadable}
 use Rattle.flux_words.specs.Names.{Names}
-use Rattle.flux_words.specs.OptionWords.{FollowOptions, IsPast}
+use Rattle.flux_words.specs.inside.OptionWords.{FollowOptions, IsPast}
 use Rattle.flux_words.specs.SectorWords.{ArePlaceWords, AskedSector, IsFirst, NamesSector, NamesTrack, sector_options}
 use Rattle.flux_words.specs.declared.options.Options.{Options}
 use Rattle.flux_words.specs.declared.options.Shown.{Shown}

@@ -98,10 +98,6 @@ abbrev pub AreWordsOf : Asked → List (List ℕ) → Type 0
 AreWordsOf asked [] = ⊥
 AreWordsOf asked (first ∷ others) = AreByVerb (verb_of first) first others asked
 
--- what they ask for behind a verb's; nothing where it can be nothing
-abbrev pub AskBehind : Verb → (others : List (List ℕ)) → Option Asked → Type 0
-AskBehind verb others asked = Names (AreBehind verb others) asked
-
 -- what the words ask for; nothing where they are not those of a command
 abbrev pub AskFor : List (List ℕ) → Option Asked → Type 0
 AskFor words asked = Names (λ asked. AreWordsOf asked words) asked

@@ -7,3 +7,4 @@ pub mod CommandWords
 pub mod OptionWords
 pub mod DumpWords
 pub mod SectorWords
+pub mod inside

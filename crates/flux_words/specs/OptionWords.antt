@@ -15,27 +15,12 @@ plain = record { stepping = Single; shown = Image; alone = None }
 abbrev pub MOST_COPY_NUMBERS : ℕ
 MOST_COPY_NUMBERS = 16
 
--- something that words name, with the words behind its own
-abbrev pub Behind : {A : Type 0} → (Is : A → (words rest : List (List ℕ)) → Type 0)
-    → (words : List (List ℕ)) → A × List (List ℕ) → Type 0
-Behind Is words found = Is found.0 words found.1
-
--- the first word is the number of a content, as it is printed
-abbrev pub HasNumber : Choice → (words rest : List (List ℕ)) → Type 0
-HasNumber (Copy number) words rest =
-    (number < MOST_COPY_NUMBERS) × (words ≡ decimal number ∷ rest)
-HasNumber _ words rest = ⊥
-
 -- an option stands before these words
 abbrev pub IsChoice : Choice → (words rest : List (List ℕ)) → Type 0
 IsChoice DoubleStep words rest = words ≡ codes "--double-step" ∷ rest
 IsChoice Picture words rest = words ≡ codes "--picture" ∷ rest
 IsChoice (Copy number) words rest =
     (number < MOST_COPY_NUMBERS) × (words ≡ codes "--copy" ∷ decimal number ∷ rest)
-
--- no option stands first
-abbrev pub IsPast : List (List ℕ) → Type 0
-IsPast words = (choice : Choice) (rest : List (List ℕ)) → ¬ IsChoice choice words rest
 
 -- one more is chosen, which was not yet
 abbrev pub Adds : Choice → (before after : Options) → Type 0
@@ -45,12 +30,6 @@ Adds Picture before after =
     (before.shown ≡ Image) × (after ≡ record before { shown = PictureShown })
 Adds (Copy number) before after =
     (before.alone ≡ None) × (after ≡ record before { alone = Some number })
-
--- by the option that stands first
-pub record IsNext (before after : Options) (words rest : List (List ℕ)) : Type 0 where
-  pub choice : Choice
-  pub added : Adds choice before after
-  pub is : IsChoice choice words rest
 
 -- and by all of these, one after another
 abbrev pub AreChosen : List Choice → (before after : Options)
@@ -66,21 +45,9 @@ abbrev pub StandBefore : (before after : Options) → (words rest : List (List �
 StandBefore before after words rest =
     (choices : List Choice) × AreChosen choices before after words rest
 
--- there are no others before words that begin with none
-abbrev pub AreAllOf : Options → (words rest : List (List ℕ)) → Type 0
-AreAllOf options words rest = (others : Options) (later : List (List ℕ)) → IsPast later
-    → StandBefore plain others words later → (others ≡ options) × (later ≡ rest)
-
 -- the words of what is asked, by its options and by what stands behind them
 pub record HaveOptions {A : Type 0} (options_of : A → Options)
     (AreLast : A → List (List ℕ) → Type 0) (words : List (List ℕ)) (asked : A) : Type 0 where
   pub rest : List (List ℕ)
   pub stand : StandBefore plain (options_of asked) words rest
   pub are : AreLast asked rest
-
--- and those behind these options
-pub record FollowOptions {A : Type 0} (options_of : A → Options)
-    (AreLast : A → List (List ℕ) → Type 0) (options : Options) (words : List (List ℕ))
-    (asked : A) : Type 0 where
-  pub options_are : options_of asked ≡ options
-  pub are : AreLast asked words

@@ -4,7 +4,8 @@ ghost use Rattle.std.specs.Prelude.{IfNone, IfSome};
 ghost use Rattle.std.specs.Option.{option_map};
 ghost use Rattle.flux_help.specs.declared.page.Page.{Page as PageKind};
 ghost use Rattle.flux_words.specs.Asked.{asked_of};
-ghost use Rattle.flux_words.specs.CommandWords.{AskBehind, AskFor, AskOnce, IsDashed, IsPageWord};
+ghost use Rattle.flux_words.specs.CommandWords.{AskFor, AskOnce, IsDashed, IsPageWord};
+ghost use Rattle.flux_words.specs.inside.CommandWords.{AskBehind};
 ghost use Rattle.flux_words.specs.Names.{Names};
 
 use crate::behind::{

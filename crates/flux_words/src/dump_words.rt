@@ -7,7 +7,7 @@ ghost use Rattle.std.specs.Option.{option_map};
 ghost use Rattle.flux_words.specs.DumpWords.{AreDiskWords, AreDumpWords, AreReadable, asked_dumps, dump_options};
 ghost use Rattle.flux_words.specs.DumpWords.{is_nameless};
 ghost use Rattle.flux_words.specs.Names.{Names};
-ghost use Rattle.flux_words.specs.OptionWords.{FollowOptions};
+ghost use Rattle.flux_words.specs.inside.OptionWords.{FollowOptions};
 
 use crate::options::{Options, Shown, options_in};
 use flux_base::Word;

@@ -4,7 +4,8 @@ ghost use Rattle.std.specs.Prelude.{◌≡◌, ◌<◌, decimal};
 ghost use Rattle.std.specs.Bool.{Decides};
 ghost use Rattle.std.specs.Option.{option_map};
 ghost use Rattle.flux_words.specs.Names.{Names};
-ghost use Rattle.flux_words.specs.OptionWords.{Adds, AreAllOf, Behind, HasNumber, IsChoice, IsNext, StandBefore, plain};
+ghost use Rattle.flux_words.specs.OptionWords.{Adds, IsChoice, StandBefore, plain};
+ghost use Rattle.flux_words.specs.inside.OptionWords.{AreAllOf, Behind, HasNumber, IsNext};
 
 use flux_base::Word;
 use sector_report::{Line, put_u32};

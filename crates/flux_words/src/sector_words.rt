@@ -4,7 +4,7 @@ ghost use Rattle.std.specs.Prelude.{◌≡◌, ◌≢◌, ◌<◌, ◌≤◌, �
 ghost use Rattle.std.specs.Bool.{Decides};
 ghost use Rattle.std.specs.Option.{option_map};
 ghost use Rattle.flux_words.specs.Names.{Names};
-ghost use Rattle.flux_words.specs.OptionWords.{FollowOptions};
+ghost use Rattle.flux_words.specs.inside.OptionWords.{FollowOptions};
 ghost use Rattle.flux_words.specs.SectorWords.{AreDigitsOf, ArePlaceWords, AreSectorWords, IsSectorWord, IsTrackWord};
 ghost use Rattle.flux_words.specs.SectorWords.{NamesSector, NamesTrack, ReportsNameThem, asked_sector, sector_options};
 ghost use Rattle.disk_recordings.specs.TrackSectors.{sectors_of as sectors_in, track_at};

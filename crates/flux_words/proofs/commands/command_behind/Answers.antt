@@ -2,7 +2,7 @@ use Rattle.std.proofs.Common.{subst, sym}
 use Rattle.std.specs.Option.{option_map}
 use Rattle.flux_help.specs.declared.verb.Verb.{Verb}
 use Rattle.flux_words.specs.Asked.{asked_of}
-use Rattle.flux_words.specs.CommandWords.{AskBehind}
+use Rattle.flux_words.specs.inside.CommandWords.{AskBehind}
 use Rattle.flux_words.proofs.commands.command_behind.Goals as goal
 
 pub returns-in-Rescue : goal.returns-in-Rescue

@@ -1,5 +1,6 @@
 use Rattle.std.proofs.Common.{ℕ, List, length}
-use Rattle.flux_words.specs.OptionWords.{IsPast, StandBefore, plain}
+use Rattle.flux_words.specs.OptionWords.{StandBefore, plain}
+use Rattle.flux_words.specs.inside.OptionWords.{IsPast}
 use Rattle.flux_words.specs.declared.options.Options.{Options}
 use Rattle.flux_words.proofs.options.options_in.Given as goal
 

@@ -1,6 +1,6 @@
 use Rattle.std.proofs.Common.{◌≡◌, ◌-◌, ◌∷◌, ℕ, List, Option, ap, drop, length, subst, sym, take, ◌∙◌}
 use Rattle.flux_words.specs.Names.{Names}
-use Rattle.flux_words.specs.OptionWords.{FollowOptions}
+use Rattle.flux_words.specs.inside.OptionWords.{FollowOptions}
 use Rattle.flux_words.specs.SectorWords.{ArePlaceWords, AskedSector, asked_sector, sector_options}
 use Rattle.flux_words.proofs.DumpWords.{then-asked}
 use Rattle.flux_words.proofs.SectorWords.{no-sector, three_first, with-place}
