@@ -1,14 +1,13 @@
 -- What the words of `read` ask for.
-use Rattle.std.proofs.Common.{◌≡◌, ◌-◌, ℕ, Bool, true, false, List, ◌∷◌, drop, take, length, Option, None, refl, sym, ap, ◌∙◌, subst, arith}
-use Rattle.std.specs.Bool.{Decides, then_some}
+use Rattle.std.proofs.Common.{◌≡◌, ◌-◌, ℕ, Bool, true, false, List, drop, take, length, Option, sym, ap, ◌∙◌, subst, arith}
+use Rattle.std.specs.Bool.{then_some}
 use Rattle.std.specs.Option.{option_map}
 use Rattle.std.proofs.lemmas.List.{length-drop, take_all}
 use Rattle.sector_images.specs.Formats.{IsWordOfFormat, WordsBeginWithLetters, WordsNameFormats}
 use Rattle.sector_images.specs.declared.format.Format.{Format}
 use Rattle.track_shelf.specs.declared.stepping.Stepping.{Stepping}
-use Rattle.flux_words.specs.DumpWords.{AreDiskWords, AreReadable, AskedDumps, dump_options}
-use Rattle.flux_words.specs.Names.{Names}
-use Rattle.flux_words.specs.inside.OptionWords.{FollowOptions, IsPast}
+use Rattle.flux_words.specs.DumpWords.{AreDiskWords, AskedDumps, dump_options}
+use Rattle.flux_words.specs.inside.OptionWords.{IsPast}
 use Rattle.flux_words.specs.declared.options.Options.{Options}
 use Rattle.flux_words.specs.declared.options.Shown.{Shown}
 use Rattle.flux_words.proofs.OptionWords.{head-same, tail-same, word-past}
@@ -30,24 +29,6 @@ one-disk one a b words options mine theirs =
     ∙ ap (λ (s : Shown). record a { stepping = b.stepping; shown = s }) (ap (λ (o : Options). o.shown) options)
     ∙ ap (λ (d : List (List ℕ)). record a { stepping = b.stepping; shown = b.shown; dumps = d }) (tail-same _ _ _ _ same)
     ∙ ap (λ (f : Format). record b { format = f }) kind
-
--- a format and dumps that can be read, or cannot
-pub with-format : WordsNameFormats → (options : Options) (words : List (List ℕ)) (format : Format) (word : List ℕ) (dumps : List (List ℕ)) (b : Bool) → options.alone ≡ None
-    → words ≡ word ∷ dumps → IsWordOfFormat word format → Decides b (AreReadable dumps options.stepping format)
-    → Names (FollowOptions dump_options AreDiskWords options words) (then_some b (record { stepping = options.stepping; shown = options.shown; dumps = dumps; format = format }))
-with-format one options words format word dumps true none at is readable = record {
-  options_are = ap (λ (a : Option ℕ). record options { alone = a }) (sym none);
-  are = record { word = word; are = at; named = is; can = readable.0 refl };
-}
-with-format one options words format word dumps false none at is readable = λ asked are.
-    let same = sym are.are.are ∙ at in
-    let kind : asked.format ≡ format = one-format one are.are.word word asked.format format (head-same _ _ _ _ same) are.are.named is in
-    let steps : asked.stepping ≡ options.stepping = ap (λ (o : Options). o.stepping) are.options_are in
-    let yes = readable.1 (
-    subst (λ (f : Format). AreReadable dumps options.stepping f) kind
-    (subst (λ (s : Stepping). AreReadable dumps s asked.format) steps
-    (subst (λ (d : List (List ℕ)). AreReadable d asked.stepping asked.format) (tail-same _ _ _ _ same) are.are.can))) in
-    cc
 
 -- what is asked, as contracts see it, where it can be
 pub then-asked : {X Y : Type 0} (view : X → Y) (b : Bool) (x : X) (r : Option X) → r ≡ then_some b x → then_some b (view x) ≡ option_map view r

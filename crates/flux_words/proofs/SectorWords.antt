@@ -90,59 +90,46 @@ module _ (one : WordsNameFormats) where
       ∙ ap (λ (s : ℕ). record a { stepping = b.stepping; dumps = b.dumps; format = b.format; number = b.number; sector = s }) place
       ∙ ap (λ (o : Option ℕ). record b { alone = o }) (ap (λ (o : Options). o.alone) options)
 
-  -- what is no format, no track or no sector
-  module _ (options : Options) (words : List (List ℕ)) (word track sector : List ℕ) (dumps : List (List ℕ)) (at : words ≡ word ∷ track ∷ sector ∷ dumps) where
-    pub no-format : ((f : Format) → ¬ IsWordOfFormat word f) → Names (FollowOptions sector_options ArePlaceWords options words) None
-    no-format none = λ asked are. none asked.format (named_here words word track sector dumps at asked are.are)
+  -- what is no sector of the track
+  module _ (options : Options) (words : List (List ℕ)) (word track sector : List ℕ) (dumps : List (List ℕ)) (at : words ≡ word ∷ track ∷ sector ∷ dumps)
+      (format : Format) (named : IsWordOfFormat word format) (number : ℕ) (track_is : NamesTrack format track (Some number)) where
+    pub no-sector : NamesSector format number sector None → Names (FollowOptions sector_options ArePlaceWords options words) None
+    no-sector none = λ asked are. (let there = sector_here words word track sector dumps at asked are.are format named number track_is in none are.are.index there.0 there.1)
 
-    module _ (format : Format) (named : IsWordOfFormat word format) where
-      pub no-track : NamesTrack format track None → Names (FollowOptions sector_options ArePlaceWords options words) None
-      no-track none = λ asked are. (let there = track_here words word track sector dumps at asked are.are format named in none asked.number there.0 there.1)
-
-      module _ (number : ℕ) (track_is : NamesTrack format track (Some number)) where
-        pub no-sector : NamesSector format number sector None → Names (FollowOptions sector_options ArePlaceWords options words) None
-        no-sector none = λ asked are. (let there = sector_here words word track sector dumps at asked are.are format named number track_is in none are.are.index there.0 there.1)
-
-        -- a sector that the words name
-        pub with-place : options.shown ≡ Image → (place : ℕ) → (sectors_of format (track_at format number)).first ≤ place
-            → NamesSector format number sector (Some (place - (sectors_of format (track_at format number)).first)) → (b : Bool) → Decides b (AreReadable dumps options.stepping format)
-            → Names (FollowOptions sector_options ArePlaceWords options words) (then_some b (record {
-              stepping = options.stepping;
-              dumps = dumps;
-              format = format;
-              number = number;
-              sector = place;
-              alone = options.alone;
-            }))
-        with-place shown place least sector_is true readable = record {
-          options_are = ap (λ (s : Shown). record options { shown = s }) (sym shown);
-          are = record {
-            word = word;
-            named = named;
-            track = track;
-            track_is = track_is;
-            sector = sector;
-            index = place - (sectors_of format (track_at format number)).first;
-            sector_is = sector_is;
-            at = omega (arith, least);
-            are = at;
-            can = readable.0 refl;
-          };
-        }
-        with-place shown place least sector_is false readable = λ asked are.
-            let kind = is_format words word track sector dumps at asked are.are format named in
-            let steps : asked.stepping ≡ options.stepping = ap (λ (o : Options). o.stepping) are.options_are in
-            let yes = readable.1 (
-            subst (λ (f : Format). AreReadable dumps options.stepping f) kind
-            (subst (λ (s : Stepping). AreReadable dumps s asked.format) steps
-            (subst (λ (d : List (List ℕ)). AreReadable d asked.stepping asked.format) (are_dumps words word track sector dumps at asked are.are) are.are.can))) in
-            cc
-
--- too few words for a format, a track and a sector
-pub place-short : (options : Options) (words : List (List ℕ)) → length words < 3 → Names (FollowOptions sector_options ArePlaceWords options words) None
-place-short options words few = λ asked are. (
-    let many = ap length are.are.are in
-    omega (arith, few, many))
+    -- a sector that the words name
+    pub with-place : options.shown ≡ Image → (place : ℕ) → (sectors_of format (track_at format number)).first ≤ place
+        → NamesSector format number sector (Some (place - (sectors_of format (track_at format number)).first)) → (b : Bool) → Decides b (AreReadable dumps options.stepping format)
+        → Names (FollowOptions sector_options ArePlaceWords options words) (then_some b (record {
+          stepping = options.stepping;
+          dumps = dumps;
+          format = format;
+          number = number;
+          sector = place;
+          alone = options.alone;
+        }))
+    with-place shown place least sector_is true readable = record {
+      options_are = ap (λ (s : Shown). record options { shown = s }) (sym shown);
+      are = record {
+        word = word;
+        named = named;
+        track = track;
+        track_is = track_is;
+        sector = sector;
+        index = place - (sectors_of format (track_at format number)).first;
+        sector_is = sector_is;
+        at = omega (arith, least);
+        are = at;
+        can = readable.0 refl;
+      };
+    }
+    with-place shown place least sector_is false readable = λ asked are.
+        let kind = is_format words word track sector dumps at asked are.are format named in
+        let steps : asked.stepping ≡ options.stepping = ap (λ (o : Options). o.stepping) are.options_are in
+        let yes = readable.1 (
+        subst (λ (f : Format). AreReadable dumps options.stepping f) kind
+        (subst (λ (s : Stepping). AreReadable dumps s asked.format) steps
+        (subst (λ (d : List (List ℕ)). AreReadable d asked.stepping asked.format) (are_dumps words word track sector dumps at asked are.are) are.are.can))) in
+        cc
 
 -- words of which the first three are these
 pub three_first : (words : List (List ℕ)) (a b c : List ℕ) → 3 ≤ length words → a ≡ get_or words 0 a → b ≡ get_or words 1 b → c ≡ get_or words 2 c
