@@ -67,9 +67,9 @@ still_shelf false Memory other shelf = Counts-none shelf
 still_shelf false ShelfFault other shelf = absurd (other refl)
 
 -- there was no memory to begin
-pub memoryless : (dumps : Bool) (shelf image notes : FaultCounts) → CountsOnShelf dumps Memory (three_counts shelf image notes) (three_counts shelf image notes)
-memoryless true shelf image notes = record { shelf = (0, refl, many-none shelf); image = Counts-none image; notes = Counts-none notes }
-memoryless false shelf image notes = record { shelf = Counts-none shelf; image = Counts-none image; notes = Counts-none notes }
+pub memoryless : (dumps : Bool) (source shelf image notes : FaultCounts) → CountsOfRun dumps false Memory (all_counts source shelf image notes) (all_counts source shelf image notes)
+memoryless true source shelf image notes = record { source = Counts-none source; shelf = (0, refl, many-none shelf); image = Counts-none image; notes = Counts-none notes }
+memoryless false source shelf image notes = record { source = Counts-none source; shelf = Counts-none shelf; image = Counts-none image; notes = Counts-none notes }
 
 module _ {source source' shelf image image' notes notes' : FaultCounts} where
   -- a run over the source, which does not touch the shelf

@@ -6,7 +6,7 @@ ghost use Rattle.flux_cli.specs.ShelfRuns.{Ran};
 ghost use Rattle.flux_cli.specs.World.{world_at};
 
 use crate::output_told::tell_output;
-use crate::shelf_task::{DecodeFolder, Identify, ShelfTask};
+use crate::shelf_task::{DecodeFolder, Identify};
 use crate::task::{FromG64, Task, Tell, ToG64, Trial, Turns, Write};
 use disk_map::dumps_are_drawn_as_reported;
 use flux_base::{Sink, Source, Status, Word};
@@ -92,20 +92,20 @@ fn run_words<S: Source, W: Sink, N: Sink, H: Shelf>(
             Ok(()) => Status::Usage,
             Err(_) => Status::NotesFault,
         },
-        Some(Command::Turns) => Turns.run(alloc, source, image, notes),
-        Some(Command::Streams(asked)) => asked.run(alloc, source, image, notes),
+        Some(Command::Turns) => Turns.run(alloc, source, image, notes, shelf),
+        Some(Command::Streams(asked)) => asked.run(alloc, source, image, notes, shelf),
         Some(Command::Folder(format, folder)) => {
-            DecodeFolder { format, folder }.run(alloc, shelf, image, notes)
+            DecodeFolder { format, folder }.run(alloc, source, image, notes, shelf)
         }
-        Some(Command::Dumps(asked)) => asked.run(alloc, shelf, image, notes),
-        Some(Command::Sector(asked)) => asked.run(alloc, shelf, image, notes),
-        Some(Command::Identify(dump)) => Identify { dump }.run(alloc, shelf, image, notes),
-        Some(Command::Write(format)) => Write { format }.run(alloc, source, image, notes),
+        Some(Command::Dumps(asked)) => asked.run(alloc, source, image, notes, shelf),
+        Some(Command::Sector(asked)) => asked.run(alloc, source, image, notes, shelf),
+        Some(Command::Identify(dump)) => Identify { dump }.run(alloc, source, image, notes, shelf),
+        Some(Command::Write(format)) => Write { format }.run(alloc, source, image, notes, shelf),
         Some(Command::Trial(format, seed)) => {
-            Trial { format, seed }.run(alloc, source, image, notes)
+            Trial { format, seed }.run(alloc, source, image, notes, shelf)
         }
-        Some(Command::ToG64(disk)) => ToG64 { disk }.run(alloc, source, image, notes),
-        Some(Command::FromG64(disk)) => FromG64 { disk }.run(alloc, source, image, notes),
-        Some(Command::Tell(page)) => Tell { page }.run(alloc, source, image, notes),
+        Some(Command::ToG64(disk)) => ToG64 { disk }.run(alloc, source, image, notes, shelf),
+        Some(Command::FromG64(disk)) => FromG64 { disk }.run(alloc, source, image, notes, shelf),
+        Some(Command::Tell(page)) => Tell { page }.run(alloc, source, image, notes, shelf),
     }
 }

@@ -1,23 +1,16 @@
-//! What a command over the shelf promises, whichever it is, and each of these commands.
+//! Each command over the shelf.
 
-ghost use Rattle.std.specs.Prelude.{◌≢◌};
-ghost use Rattle.flux_base.specs.declared.status.Status.{Status};
-ghost use Rattle.flux_base.specs.World.{counts_at};
-ghost use Rattle.flux_cli.specs.Blamed.{CountsOnShelf, over_dumps};
+ghost use Rattle.flux_words.specs.Asked.{a_folder, a_sector, an_identity, some_dumps};
 ghost use Rattle.flux_words.specs.DumpWords.{asked_dumps};
 ghost use Rattle.flux_words.specs.SectorWords.{asked_sector};
-ghost use Rattle.flux_cli.specs.AskedDisks.{Keeps};
-ghost use Rattle.flux_cli.specs.ShelfRuns.{DoesOnShelf};
-ghost use Rattle.flux_cli.specs.Works.{row_of};
-ghost use Rattle.flux_words.specs.Asked.{Asked, a_folder, a_sector, an_identity, some_dumps};
-ghost use Rattle.flux_cli.specs.World.{on_shelf_at};
 
 use crate::endings::{end_of_identity, end_of_sector};
 use crate::folder::decode_folder;
 use crate::read::show;
+use crate::task::Task;
 use dump_identity::{IdentityRoom, identify};
 use dump_reading::Dumps;
-use flux_base::{Memory, Sink, Status, Word};
+use flux_base::{Memory, Sink, Source, Status, Word};
 use flux_engine::DiskRoom;
 use flux_words::{DumpsAsked, ShowAsked};
 use sector_copies::{SectorRoom, show_sector};
@@ -26,23 +19,6 @@ use std::alloc::Global;
 use std::slice::from_ref;
 use track_shelf::Shelf;
 
-/// A command over the shelf, with what its words ask for.
-pub(crate) trait ShelfTask<H: Shelf, W: Sink, N: Sink> {
-    /// What is asked.
-    ghost asked: { Self → Asked };
-
-    /// Does the command, in a room of its own.
-    fn run(&self, alloc: Global, shelf: &mut H, image: &mut W, notes: &mut N) -> Status
-        requires { Keeps (asked self.now) }
-        ensures did { DoesOnShelf (row_of (asked self.now)) result
-            (on_shelf_at H.Source H.Shelf.own W.Sink N.Sink shelf.old image.old notes.old)
-            (on_shelf_at H.Source H.Shelf.own W.Sink N.Sink shelf.new image.new notes.new) }
-        ensures blames { CountsOnShelf (over_dumps (asked self.now)) result
-            (counts_at H.Source W.Sink N.Sink shelf.old image.old notes.old)
-            (counts_at H.Source W.Sink N.Sink shelf.new image.new notes.new) }
-        ensures no_source { result ≢ Status.ReadFault };
-}
-
 /// Decodes the track files of a folder: the image goes to `image`, and the report to `notes`.
 #[derive(Clone, Copy)]
 pub(crate) struct DecodeFolder<'a> {
@@ -50,10 +26,17 @@ pub(crate) struct DecodeFolder<'a> {
     pub(crate) folder: &'a Word,
 }
 
-impl<H: Shelf, W: Sink, N: Sink> ShelfTask<H, W, N> for DecodeFolder<'_> {
+impl<S: Source, W: Sink, N: Sink, H: Shelf> Task<S, W, N, H> for DecodeFolder<'_> {
     ghost asked = { λ task. a_folder task.format task.folder.now };
 
-    fn run(&self, alloc: Global, shelf: &mut H, image: &mut W, notes: &mut N) -> Status {
+    fn run(
+        &self,
+        alloc: Global,
+        _source: &mut S,
+        image: &mut W,
+        notes: &mut N,
+        shelf: &mut H,
+    ) -> Status {
         match DiskRoom::reserve(alloc, self.format) {
             Ok(mut room) => decode_folder(
                 &mut room,
@@ -69,10 +52,17 @@ impl<H: Shelf, W: Sink, N: Sink> ShelfTask<H, W, N> for DecodeFolder<'_> {
 }
 
 /// Reads a disk of its dumps, to its image and its report or to a picture.
-impl<H: Shelf, W: Sink, N: Sink> ShelfTask<H, W, N> for DumpsAsked<'_> {
+impl<S: Source, W: Sink, N: Sink, H: Shelf> Task<S, W, N, H> for DumpsAsked<'_> {
     ghost asked = { λ task. some_dumps (asked_dumps task) };
 
-    fn run(&self, alloc: Global, shelf: &mut H, image: &mut W, notes: &mut N) -> Status {
+    fn run(
+        &self,
+        alloc: Global,
+        _source: &mut S,
+        image: &mut W,
+        notes: &mut N,
+        shelf: &mut H,
+    ) -> Status {
         let dumps = Dumps {
             names: self.dumps,
             stepping: self.stepping,
@@ -90,10 +80,17 @@ pub(crate) struct Identify<'a> {
     pub(crate) dump: &'a Word,
 }
 
-impl<H: Shelf, W: Sink, N: Sink> ShelfTask<H, W, N> for Identify<'_> {
+impl<S: Source, W: Sink, N: Sink, H: Shelf> Task<S, W, N, H> for Identify<'_> {
     ghost asked = { λ task. an_identity task.dump.now };
 
-    fn run(&self, alloc: Global, shelf: &mut H, image: &mut W, notes: &mut N) -> Status {
+    fn run(
+        &self,
+        alloc: Global,
+        _source: &mut S,
+        image: &mut W,
+        notes: &mut N,
+        shelf: &mut H,
+    ) -> Status {
         match IdentityRoom::reserve(alloc) {
             Ok(room) => {
                 let answer = identify(self.dump, room, shelf, image);
@@ -106,10 +103,17 @@ impl<H: Shelf, W: Sink, N: Sink> ShelfTask<H, W, N> for Identify<'_> {
 
 /// Shows a sector of a disk of its dumps: its contents, or one of them alone, go to `image`. Notes say which streams
 /// were passed over, or which dump has none of the disk's files.
-impl<H: Shelf, W: Sink, N: Sink> ShelfTask<H, W, N> for ShowAsked<'_> {
+impl<S: Source, W: Sink, N: Sink, H: Shelf> Task<S, W, N, H> for ShowAsked<'_> {
     ghost asked = { λ task. a_sector (asked_sector task) };
 
-    fn run(&self, alloc: Global, shelf: &mut H, image: &mut W, notes: &mut N) -> Status {
+    fn run(
+        &self,
+        alloc: Global,
+        _source: &mut S,
+        image: &mut W,
+        notes: &mut N,
+        shelf: &mut H,
+    ) -> Status {
         let dumps = Dumps {
             names: self.dumps,
             stepping: self.stepping,

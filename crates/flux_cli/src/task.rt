@@ -1,13 +1,11 @@
-//! What a command over the source promises, whichever it is, and each of these commands.
+//! What a command promises, whichever it is, and each command over the source.
 
-ghost use Rattle.std.specs.Prelude.{◌≡◌};
-ghost use Rattle.flux_base.specs.Blames.{CountsBy};
-ghost use Rattle.flux_base.specs.World.{counts_at};
+ghost use Rattle.std.specs.Prelude.{◌≡◌, false};
 ghost use Rattle.flux_cli.specs.AskedDisks.{IsFew, Keeps};
-ghost use Rattle.flux_cli.specs.Blamed.{source_blame};
-ghost use Rattle.flux_cli.specs.ShelfRuns.{DoesWithBytes};
+ghost use Rattle.flux_cli.specs.Blamed.{CountsOfRun, over_dumps, world_counts};
+ghost use Rattle.flux_cli.specs.ShelfRuns.{DoesRow};
 ghost use Rattle.flux_cli.specs.Works.{plan_of, row_of};
-ghost use Rattle.flux_cli.specs.World.{outside_at};
+ghost use Rattle.flux_cli.specs.World.{world_at};
 ghost use Rattle.flux_words.specs.Asked.{Asked, a_g64_file, a_page, a_trial, an_image_of_g64, some_streams, the_turns};
 ghost use Rattle.flux_words.specs.Asked.{written_streams};
 
@@ -23,31 +21,48 @@ use g64_image::{G64Room, from_g64, to_g64};
 use kryo_stream::StreamRoom;
 use sector_images::Format;
 use std::alloc::Global;
+use track_shelf::Shelf;
 
-/// A command over the source, with what its words ask for.
-pub(crate) trait Task<S: Source, W: Sink, N: Sink> {
+/// A command, with what its words ask for. An object of the outside that it has no use for stays as it was.
+pub(crate) trait Task<S: Source, W: Sink, N: Sink, H: Shelf> {
     /// What is asked.
     ghost asked: { Self → Asked };
 
     /// Does the command, in a room of its own.
-    fn run(&self, alloc: Global, source: &mut S, image: &mut W, notes: &mut N) -> Status
+    fn run(
+        &self,
+        alloc: Global,
+        source: &mut S,
+        image: &mut W,
+        notes: &mut N,
+        shelf: &mut H,
+    ) -> Status
         requires { Keeps (asked self.now) }
-        ensures does { DoesWithBytes (row_of (asked self.now)) result
-            (outside_at S.Source W.Sink N.Sink source.old image.old notes.old)
-            (outside_at S.Source W.Sink N.Sink source.new image.new notes.new) }
-        ensures blames { CountsBy (source_blame result)
-            (counts_at S.Source W.Sink N.Sink source.old image.old notes.old)
-            (counts_at S.Source W.Sink N.Sink source.new image.new notes.new) };
+        ensures did { DoesRow (row_of (asked self.now)) result
+            (world_at S.Source W.Sink N.Sink H.Source H.Shelf.own source.old image.old notes.old shelf.old)
+            (world_at S.Source W.Sink N.Sink H.Source H.Shelf.own source.new image.new notes.new shelf.new) }
+        ensures counts { CountsOfRun (over_dumps (asked self.now)) false result
+            (world_counts (world_at S.Source W.Sink N.Sink H.Source H.Shelf.own source.old image.old notes.old
+            shelf.old))
+            (world_counts (world_at S.Source W.Sink N.Sink H.Source H.Shelf.own source.new image.new notes.new
+            shelf.new)) };
 }
 
 /// Reads one stream, and prints its transitions and turns.
 #[derive(Clone, Copy)]
 pub(crate) struct Turns;
 
-impl<S: Source, W: Sink, N: Sink> Task<S, W, N> for Turns {
+impl<S: Source, W: Sink, N: Sink, H: Shelf> Task<S, W, N, H> for Turns {
     ghost asked = { λ _. the_turns };
 
-    fn run(&self, alloc: Global, source: &mut S, image: &mut W, notes: &mut N) -> Status {
+    fn run(
+        &self,
+        alloc: Global,
+        source: &mut S,
+        image: &mut W,
+        notes: &mut N,
+        _shelf: &mut H,
+    ) -> Status {
         match StreamRoom::reserve(alloc) {
             Ok(mut room) => print_turns(&mut room, source, image, notes),
             Err(Memory) => Status::Memory,
@@ -56,10 +71,17 @@ impl<S: Source, W: Sink, N: Sink> Task<S, W, N> for Turns {
 }
 
 /// Decodes a disk in the way that is asked for, and gives its image with its report, the report alone, or a picture.
-impl<S: Source, W: Sink, N: Sink> Task<S, W, N> for StreamsAsked {
+impl<S: Source, W: Sink, N: Sink, H: Shelf> Task<S, W, N, H> for StreamsAsked {
     ghost asked = { λ task. some_streams task };
 
-    fn run(&self, alloc: Global, source: &mut S, image: &mut W, notes: &mut N) -> Status {
+    fn run(
+        &self,
+        alloc: Global,
+        source: &mut S,
+        image: &mut W,
+        notes: &mut N,
+        _shelf: &mut H,
+    ) -> Status {
         let plan = plan_of(self.way);
         decode_by_plan(alloc, plan, self.output, self.format, source, image, notes)
     }
@@ -83,10 +105,17 @@ pub(crate) struct Write {
     pub(crate) format: Format,
 }
 
-impl<S: Source, W: Sink, N: Sink> Task<S, W, N> for Write {
+impl<S: Source, W: Sink, N: Sink, H: Shelf> Task<S, W, N, H> for Write {
     ghost asked = { λ task. written_streams task.format };
 
-    fn run(&self, alloc: Global, source: &mut S, image: &mut W, notes: &mut N) -> Status {
+    fn run(
+        &self,
+        alloc: Global,
+        source: &mut S,
+        image: &mut W,
+        notes: &mut N,
+        _shelf: &mut H,
+    ) -> Status {
         match WriteRoom::reserve(alloc, self.format) {
             Ok(mut room) => end_of_image(write_disk(&mut room, source, image), notes),
             Err(Memory) => Status::Memory,
@@ -101,10 +130,17 @@ pub(crate) struct Trial {
     pub(crate) seed: u32,
 }
 
-impl<S: Source, W: Sink, N: Sink> Task<S, W, N> for Trial {
+impl<S: Source, W: Sink, N: Sink, H: Shelf> Task<S, W, N, H> for Trial {
     ghost asked = { λ task. a_trial task.format task.seed };
 
-    fn run(&self, alloc: Global, _source: &mut S, image: &mut W, _notes: &mut N) -> Status {
+    fn run(
+        &self,
+        alloc: Global,
+        _source: &mut S,
+        image: &mut W,
+        _notes: &mut N,
+        _shelf: &mut H,
+    ) -> Status {
         match TrialRoom::reserve(alloc, self.format) {
             Ok(mut room) => end_of_writing(run_trial(&mut room, self.seed, image)),
             Err(Memory) => Status::Memory,
@@ -118,10 +154,17 @@ pub(crate) struct ToG64 {
     pub(crate) disk: G64Disk,
 }
 
-impl<S: Source, W: Sink, N: Sink> Task<S, W, N> for ToG64 {
+impl<S: Source, W: Sink, N: Sink, H: Shelf> Task<S, W, N, H> for ToG64 {
     ghost asked = { λ task. a_g64_file task.disk };
 
-    fn run(&self, alloc: Global, source: &mut S, image: &mut W, notes: &mut N) -> Status {
+    fn run(
+        &self,
+        alloc: Global,
+        source: &mut S,
+        image: &mut W,
+        notes: &mut N,
+        _shelf: &mut H,
+    ) -> Status {
         match G64Room::reserve(alloc, self.disk.format()) {
             Ok(mut room) => end_of_image(to_g64(&mut room, source, image), notes),
             Err(Memory) => Status::Memory,
@@ -135,10 +178,17 @@ pub(crate) struct FromG64 {
     pub(crate) disk: G64Disk,
 }
 
-impl<S: Source, W: Sink, N: Sink> Task<S, W, N> for FromG64 {
+impl<S: Source, W: Sink, N: Sink, H: Shelf> Task<S, W, N, H> for FromG64 {
     ghost asked = { λ task. an_image_of_g64 task.disk };
 
-    fn run(&self, alloc: Global, source: &mut S, image: &mut W, notes: &mut N) -> Status {
+    fn run(
+        &self,
+        alloc: Global,
+        source: &mut S,
+        image: &mut W,
+        notes: &mut N,
+        _shelf: &mut H,
+    ) -> Status {
         match G64Room::reserve(alloc, self.disk.format()) {
             Ok(mut room) => {
                 let answer = from_g64(&mut room, source, image, notes);
@@ -155,10 +205,17 @@ pub(crate) struct Tell {
     pub(crate) page: Page,
 }
 
-impl<S: Source, W: Sink, N: Sink> Task<S, W, N> for Tell {
+impl<S: Source, W: Sink, N: Sink, H: Shelf> Task<S, W, N, H> for Tell {
     ghost asked = { λ task. a_page task.page };
 
-    fn run(&self, _alloc: Global, _source: &mut S, image: &mut W, _notes: &mut N) -> Status {
+    fn run(
+        &self,
+        _alloc: Global,
+        _source: &mut S,
+        image: &mut W,
+        _notes: &mut N,
+        _shelf: &mut H,
+    ) -> Status {
         end_of_writing(write_page(self.page, image))
     }
 }

@@ -1,4 +1,5 @@
-use Rattle.std.proofs.Common.{◌∙◌, refl}
+use Rattle.std.proofs.Common.{◌∙◌, refl, false}
+use Rattle.flux_cli.proofs.Blaming.{memoryless, no-shelf, run-of-source}
 use Rattle.flux_cli.proofs.Ended.{file-ended}
 use Rattle.flux_cli.proofs.EndingLaws.{ends-blame, file-blame}
 use Rattle.flux_cli.proofs.G64Run.{file-reads}
@@ -8,16 +9,23 @@ use Rattle.flux_cli.specs.G64Work.{from_g64_work}
 use Rattle.flux_words.specs.G64Disks.{format_of}
 use Rattle.flux_cli.proofs.task.FromG64Task.run.Goals as goal
 
-pub returns-in-Ok-clause-does : goal.returns-in-Ok-clause-does
-returns-in-Ok-clause-does g c =
+pub returns-in-Ok-clause-did : goal.returns-in-Ok-clause-did
+returns-in-Ok-clause-did g c =
     let is = c.in-Ok.ensures ∙ c.format.ensures.value in
-    let e = c.from_g64-answer.ensures in
-    file-ended _ _ _ _ c.end_of_file.result c.args.self.now.disk c.from_g64-answer.result _ _
-    (record { source = e.source_later; image = e.image_later; notes = e.notes_later }) (λ x told. file-reads e.needed)
-    (rw is at e.read) e.cause c.end_of_file.ensures
+    let e = c.from_g64-answer.ensures in (
+      file-ended _ _ _ _ c.end_of_file.result c.args.self.now.disk c.from_g64-answer.result _ _
+          (record { source = e.source_later; image = e.image_later; notes = e.notes_later }) (λ x told. file-reads e.needed)
+          (rw is at e.read) e.cause c.end_of_file.ensures,
+      refl,
+    )
 
-pub returns-in-Err-clause-does : goal.returns-in-Err-clause-does
-returns-in-Err-clause-does g c = out_of_memory (from_g64_work (format_of c.args.self.now.disk)) tt _
+pub returns-in-Err-clause-did : goal.returns-in-Err-clause-did
+returns-in-Err-clause-did g c = (out_of_memory (from_g64_work (format_of c.args.self.now.disk)) tt _, refl)
 
-pub returns-in-Ok-clause-blames : goal.returns-in-Ok-clause-blames
-returns-in-Ok-clause-blames g c = ends-blame source_blame refl refl _ c.end_of_file.result _ _ (file-blame c.from_g64-answer.result c.from_g64-answer.ensures.blames) c.end_of_file.ensures
+pub returns-in-Ok-clause-counts : goal.returns-in-Ok-clause-counts
+returns-in-Ok-clause-counts g c =
+    run-of-source false c.end_of_file.result (no-shelf (returns-in-Ok-clause-did g c).0)
+    (ends-blame source_blame refl refl _ c.end_of_file.result _ _ (file-blame c.from_g64-answer.result c.from_g64-answer.ensures.blames) c.end_of_file.ensures)
+
+pub returns-in-Err-clause-counts : goal.returns-in-Err-clause-counts
+returns-in-Err-clause-counts g c = memoryless false _ _ _ _
