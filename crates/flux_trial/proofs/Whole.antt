@@ -128,7 +128,7 @@ totals_same n t counted good =
 
 -- the totals of a disk that is read whole
 totals-are : (format : Format) (streams : Streams) (image : List ℕ) (o : Planned) → IsPlanned decoding (part_by Unnamed) format streams o
-    → IsReadWhole Unnamed format image o → o.totals ≡ all_good format
+    → IsReadWhole decoding format image streams o → o.totals ≡ all_good format
 totals-are format streams image o read whole =
     let many : length read.parts ≡ length (tracks format) = read.many ∙ ap (planned_count format) whole.no_stop in
     let is : o.totals ≡ totals_over read.parts = ap (λ (d : Planned). d.totals) read.is in

@@ -22,8 +22,8 @@ use Rattle.frame_law.specs.declared.reading.Reading.TheVariants.{Good as GoodFra
 use Rattle.law_captured_disks.specs.Headline.{IsBadOrMissing, IsSectorOf}
 use Rattle.flux_engine.specs.lemmas.NoneAgreed.{none_agreed}
 use Rattle.law_captured_disks.specs.lemmas.NoneGood.{no_goods}
-use Rattle.law_captured_plans.specs.Said.{IsRightlyGood}
-use Rattle.law_captured_plans.specs.Headline.{IsOwnOrContradictory}
+use Rattle.law_captured_plans.specs.Said.{IsRightlyGood, IsSaid}
+use Rattle.law_captured_plans.specs.Headline.{IsOwnOrContradictory, IsReadRightly, IsReadWell}
 use Rattle.sector_images.specs.Formats.{row}
 use Rattle.sector_images.specs.declared.format.Format.{Format}
 use Rattle.track_shelf.specs.Files.{File}
@@ -33,9 +33,10 @@ use Rattle.turn_merge.specs.declared.clock.Clock.TheVariants.{Following}
 use Rattle.turn_merge.specs.declared.verdict.Place.{Place}
 use Rattle.turn_merge.specs.declared.verdict.Verdict.{Verdict}
 use Rattle.turn_merge.specs.declared.verdict.Verdict.TheVariants.{Bad, Contradictory, Good, Missing}
-use Rattle.law_captured_dumps.specs.Headline.{CapturedDumpsAreNeverWrong, IsReadRightly, IsReadWell, SteadyDumpsAreReadWell}
+use Rattle.law_captured_dumps.specs.Headline.{CapturedDumpsAreNeverWrong, SteadyDumpsAreReadWell}
 use Rattle.law_captured_dumps.specs.Inputs.{HasFailed, HasWhole, IsSteadyOrPassed}
-use Rattle.law_read_dumps.specs.Said.{AreOfFiles, EachIsSaid, IsSaid, IsSaidRightly, SaidIsRight, StreamsAreOfFiles, came_in}
+use Rattle.law_read_dumps.specs.Lines.{EachIsSaid, line_number}
+use Rattle.law_read_dumps.specs.Said.{AreOfFiles, IsSaidRightly, SaidIsRight, StreamsAreOfFiles, as_planned, came_in}
 use Rattle.law_captured_dumps.proofs.Owning.{HoldsOwn, Laws as OwnLaws, holds, mine, stands, tracks_written}
 
 -- what the crates below promise, and the laws before
@@ -85,10 +86,10 @@ module _ (laws : Laws) (disk : DumpDisk) (came : Streams) (files : List File) (o
       at.0
 
   -- a sector that stands is not bad or missing
-  not_lost : (n sector : ℕ) (said : IsSaid disk came o n sector) (q : ℕ) (clock : Clock) (place : ℕ) (bytes : List ℕ) → q < length disk.dumps
+  not_lost : (n sector number : ℕ) (said : IsSaid plan format streams (as_planned o) n sector number) (q : ℕ) (clock : Clock) (place : ℕ) (bytes : List ℕ) → q < length disk.dumps
       → IsUsed plan.clocks clock → StandsIn Controller format streams n q clock place sector bytes → IsBadOrMissing (verdict (joined said.captures) sector) → ⊥
   unfolding verdict
-  not_lost n sector said q clock place bytes low used here lost =
+  not_lost n sector number said q clock place bytes low used here lost =
       let readings : List NotedReading = joined said.captures in
       let none : good_ones readings sector ≡ [] = no_goods (good_ones readings sector) (bad_ones readings sector) lost in
       let never : Each (λ (r : NotedReading). is_good_of sector r ≡ true → ⊥) readings =
@@ -97,7 +98,7 @@ module _ (laws : Laws) (disk : DumpDisk) (came : Streams) (files : List File) (o
       (ap (λ (b : Bool). b && true) (eq-eqb sector sector refl))
 
   -- a sector that one dump has whole
-  module _ (n sector : ℕ) (one : IsSectorOf format n sector) (said : IsSaid disk came o n sector) (dump : ℕ) (low : dump < length disk.dumps)
+  module _ (n sector number : ℕ) (one : IsSectorOf format n sector) (said : IsSaid plan format streams (as_planned o) n sector number) (dump : ℕ) (low : dump < length disk.dumps)
       (not_failed : ¬ HasFailed came n dump) (whole : HasWhole disk files image n dump sector) where
     abbrev used : IsUsed plan.clocks Following
     used = following_used plan.clocks
@@ -106,7 +107,7 @@ module _ (laws : Laws) (disk : DumpDisk) (came : Streams) (files : List File) (o
     there = stands laws.own disk came files of image is n dump one.track low sector one not_failed whole
 
     never_lost : IsBadOrMissing (verdict (joined said.captures) sector) → ⊥
-    never_lost = not_lost n sector said dump Following there.0 (mine laws.own disk came files of image is n sector) low used there.1
+    never_lost = not_lost n sector number said dump Following there.0 (mine laws.own disk came files of image is n sector) low used there.1
 
     -- good means its own bytes
     good_is_own : (first : Place) → IsRightlyGood plan format streams o.image n sector first → held n sector ≡ own n sector
@@ -123,14 +124,14 @@ module _ (laws : Laws) (disk : DumpDisk) (came : Streams) (files : List File) (o
     rightly_by (Bad b first) same right = never_lost (subst IsBadOrMissing (sym same) tt)
     rightly_by Missing same right = never_lost (subst IsBadOrMissing (sym same) tt)
 
-    pub rightly : IsReadRightly disk came image o n sector
-    rightly = record { said = said; is = rightly_by (verdict (joined said.captures) sector) refl (laws.right disk came o n sector said) }
+    pub rightly : IsReadRightly plan format image streams (as_planned o) n sector number
+    rightly = record { said = said; is = rightly_by (verdict (joined said.captures) sector) refl (laws.right disk came o n sector number said) }
 
     module _ (steady : (other : ℕ) → other < length disk.dumps → IsSteadyOrPassed disk came files image n other) where
       holds_at : (q : ℕ) → q < length disk.dumps → (clock : Clock) → HoldsOwn laws.own disk came files of image is n q clock
       holds_at q few clock = holds laws.own disk came files of image is n q one.track few (steady q few) clock
 
-      well_by : (v : Verdict) → verdict (joined said.captures) sector ≡ v → IsSaidRightly disk came o n sector v → IsReadWell disk came image o n sector
+      well_by : (v : Verdict) → verdict (joined said.captures) sector ≡ v → IsSaidRightly disk came o n sector v → IsReadWell plan format image streams (as_planned o) n sector number
       well_by (Good g b first) same right =
           record { good = record { said = said; good = g; bad = b; first = first; is = same }; own = good_is_own first right }
       well_by (Contradictory g b first other) same right =
@@ -142,13 +143,13 @@ module _ (laws : Laws) (disk : DumpDisk) (came : Streams) (files : List File) (o
       well_by (Bad b first) same right = absurd (never_lost (subst IsBadOrMissing (sym same) tt))
       well_by Missing same right = absurd (never_lost (subst IsBadOrMissing (sym same) tt))
 
-      pub well : IsReadWell disk came image o n sector
-      well = well_by (verdict (joined said.captures) sector) refl (laws.right disk came o n sector said)
+      pub well : IsReadWell plan format image streams (as_planned o) n sector number
+      well = well_by (verdict (joined said.captures) sector) refl (laws.right disk came o n sector number said)
 
 pub never_wrong : Laws → CapturedDumpsAreNeverWrong
 never_wrong laws disk files image o is read n sector one dump low not_failed whole =
-    rightly laws disk (came_in read) files (laws.of_files disk files o read) image o is n sector one (laws.said disk (Some files) o read n sector one) dump low not_failed whole
+    rightly laws disk (came_in read) files (laws.of_files disk files o read) image o is n sector (line_number disk (came_in read) read.others n sector) one (laws.said disk (Some files) o read n sector one) dump low not_failed whole
 
 pub read_well : Laws → SteadyDumpsAreReadWell
 read_well laws disk files image o is read n sector one dump low not_failed whole steady =
-    well laws disk (came_in read) files (laws.of_files disk files o read) image o is n sector one (laws.said disk (Some files) o read n sector one) dump low not_failed whole steady
+    well laws disk (came_in read) files (laws.of_files disk files o read) image o is n sector (line_number disk (came_in read) read.others n sector) one (laws.said disk (Some files) o read n sector one) dump low not_failed whole steady

@@ -19,6 +19,7 @@ use Rattle.turn_merge.specs.declared.clock.Clock.{Clock}
 use Rattle.turn_merge.specs.declared.clock.Clock.TheVariants.{Following, Held}
 use Rattle.law_decoded_rings.specs.Pieces.{RingPiece, cells_of_ring_pieces}
 use Rattle.law_decoded_rings.specs.Verdicts.{AreReadingsOf, IsGoodWith, IsGoodWithOrLost, LiesInOnePiece, PiecesAreRightWithin, StandsInOnePiece, TwoRingsHaveSectors, VerdictsAreRight}
+use Rattle.flux_engine.specs.DiskLaws.{line_number}
 use Rattle.flux_engine.specs.Captures.{Capture, CapturesAreRecovered, ErasedCapture, ErasedCapturesAreRecovered, SteadyCapturesAreRecovered, SteadyErasedCapturesAreRecovered}
 use Rattle.flux_engine.specs.Captured.{AreReadingsBy, IsUsed}
 use Rattle.flux_engine.specs.declared.plan.Clocks.{Clocks}
@@ -37,15 +38,15 @@ use Rattle.flux_engine.specs.Tracks.{TrackPart, image_bytes, is_good, part_by, r
 use Rattle.flux_engine.specs.lemmas.Each.{Each}
 use Rattle.flux_engine.specs.lemmas.JoinedReadings.{each_by_clocks, each_capture, each_clock, each_joined}
 use Rattle.law_captured_disks.specs.Frames.{ring_piece, written_track}
-use Rattle.law_captured_disks.specs.Headline.{IsSectorOf}
+use Rattle.law_captured_disks.specs.Headline.{IsBadOrMissing, IsSectorOf}
 use Rattle.law_captured_disks.specs.lemmas.Cells.{cells-same}
 use Rattle.law_captured_disks.specs.lemmas.Images.{images-same}
 use Rattle.law_captured_disks.specs.lemmas.Readings.{are_readings_by}
 use Rattle.law_captured_disks.specs.lemmas.Streams.{IsStreamNumber}
 use Rattle.law_captured_disks.specs.lemmas.Totals.{all_counted, totals_good}
-use Rattle.law_captured_plans.specs.Headline.{CapturedPlansAreNeverWrong, CapturedPlansAreRead, ErasedPlansAreRead, ErasedPlansStandInOnePiece, IsKeptBy, IsLostBy, IsNeverWrong, IsOwnOrContradictory, IsReadInPart, IsReadRightly, IsReadWhole, StandInOnePiece}
+use Rattle.law_captured_plans.specs.Headline.{CapturedPlansAreNeverWrong, CapturedPlansAreRead, ErasedPlansAreRead, ErasedPlansStandInOnePiece, IsLost, IsNeverWrong, IsOwnOrContradictory, IsReadInPart, IsReadRightly, IsReadWell, IsReadWhole, StandInOnePiece}
 use Rattle.law_captured_plans.specs.Inputs.{IsCapturedSet, IsErasedSet, IsSteadyErasedSet, IsSteadySet, LiesInACapture}
-use Rattle.law_captured_plans.specs.Said.{IsSaid, SaysBy, SectorsAreSaid}
+use Rattle.law_captured_plans.specs.Said.{IsSaid, SectorsAreSaid}
 use Rattle.law_captured_plans.proofs.Places.{images_size}
 use Rattle.law_captured_plans.proofs.Sectors.{part_size, Laws as SectorLaws}
 use Rattle.law_captured_plans.proofs.Streams.{no_stop, stream_is}
@@ -88,6 +89,15 @@ following_used Both = tt
 module _ (laws : Laws) (plan : Plan) (format : Format) (image x : List ℕ) (is : IsImage format image) where
   abbrev streams : Streams
   streams = streams_in plan x
+
+  abbrev IsSaidHere : Planned → (n sector : ℕ) → Type 0
+  IsSaidHere o n sector = IsSaid plan format streams o n sector (line_number format n sector)
+
+  abbrev IsWellHere : Planned → (n sector : ℕ) → Type 0
+  IsWellHere o n sector = IsReadWell plan format image streams o n sector (line_number format n sector)
+
+  abbrev IsLostHere : Planned → (n sector : ℕ) → Type 0
+  IsLostHere o n sector = IsLost plan format streams o n sector (line_number format n sector)
 
   abbrev mine : (n sector : ℕ) → List ℕ
   mine n sector = (written_track format image n).bytes_of sector
@@ -164,42 +174,46 @@ module _ (laws : Laws) (plan : Plan) (format : Format) (image x : List ℕ) (is 
     many : length read.parts ≡ length (tracks format)
     many = read.many ∙ ap (planned_count format) stop
 
-    said : (n sector : ℕ) → IsSectorOf format n sector → IsSaid plan format streams o n sector
+    said : (n sector : ℕ) → IsSectorOf format n sector → IsSaidHere o n sector
     said n sector one =
         let all : planned_count format o.stop ≡ length (tracks format) = ap (planned_count format) stop in
         laws.said plan format streams o read n sector (omega (arith, all, one.track)) one.known
 
     -- what a sector's bytes in the image and its line come to, by the verdict over all readings
-    module _ (n sector : ℕ) (one : IsSectorOf format n sector) (here : IsSaid plan format streams o n sector) where
+    module _ (n sector : ℕ) (one : IsSectorOf format n sector) (here : IsSaidHere o n sector) where
       abbrev readings : List NotedReading
       readings = joined here.captures
 
       abbrev held_of : Option (List ℕ) → List ℕ
       held_of held = unwrap_or held (replicate (row format).sector_size 0)
 
-      kept_by : (v : Verdict) → SaysBy plan.naming format o n sector v → IsGoodWith v (agreed readings sector) (mine n sector)
-          → IsKeptBy plan.naming format image o n sector
-      kept_by (Good g b first) line data_is =
-          (record { good = g; bad = b; first = first; line = line }, here.held ∙ ap held_of data_is ∙ written.content n sector one)
-      kept_by (Contradictory g b first other) line data_is = absurd data_is
-      kept_by (Bad b first) line data_is = absurd data_is
-      kept_by Missing line data_is = absurd data_is
+      kept_by : (v : Verdict) → verdict readings sector ≡ v → IsGoodWith v (agreed readings sector) (mine n sector) → IsWellHere o n sector
+      kept_by (Good g b first) same data_is = record {
+        good = record { said = here; good = g; bad = b; first = first; is = same };
+        own = here.held ∙ ap held_of data_is ∙ written.content n sector one;
+      }
+      kept_by (Contradictory g b first other) same data_is = absurd data_is
+      kept_by (Bad b first) same data_is = absurd data_is
+      kept_by Missing same data_is = absurd data_is
 
-      either_by : (v : Verdict) → SaysBy plan.naming format o n sector v → IsGoodWithOrLost v (agreed readings sector) (mine n sector)
-          → IsKeptBy plan.naming format image o n sector ⊎ IsLostBy plan.naming format o n sector
-      either_by (Good g b first) line data_is = inl (kept_by (Good g b first) line data_is)
-      either_by (Contradictory g b first other) line data_is = absurd data_is
-      either_by (Bad b first) line data_is = inr (record { outcome = Bad b first; lost = tt; line = line }, here.held ∙ ap held_of data_is)
-      either_by Missing line data_is = inr (record { outcome = Missing; lost = tt; line = line }, here.held ∙ ap held_of data_is)
+      lost_by : (v : Verdict) → verdict readings sector ≡ v → IsBadOrMissing v → agreed readings sector ≡ None → IsLostHere o n sector
+      lost_by v same lost none = record { said = here; lost = subst IsBadOrMissing (sym same) lost; zeros = here.held ∙ ap held_of none }
 
-    kept : (n sector : ℕ) (one : IsSectorOf format n sector) (here : IsSaid plan format streams o n sector) → IsWith sector (mine n sector) (joined here.captures)
-        → IsKeptBy plan.naming format image o n sector
-    kept n sector one here good = kept_by n sector one here (verdict (joined here.captures) sector) here.line good
+      either_by : (v : Verdict) → verdict readings sector ≡ v → IsGoodWithOrLost v (agreed readings sector) (mine n sector)
+          → IsWellHere o n sector ⊎ IsLostHere o n sector
+      either_by (Good g b first) same data_is = inl (kept_by (Good g b first) same data_is)
+      either_by (Contradictory g b first other) same data_is = absurd data_is
+      either_by (Bad b first) same data_is = inr (lost_by (Bad b first) same tt data_is)
+      either_by Missing same data_is = inr (lost_by Missing same tt data_is)
+
+    kept : (n sector : ℕ) (one : IsSectorOf format n sector) (here : IsSaidHere o n sector) → IsWith sector (mine n sector) (joined here.captures)
+        → IsWellHere o n sector
+    kept n sector one here good = kept_by n sector one here (verdict (joined here.captures) sector) refl good
 
     -- where all sectors of all tracks are good
     module _ (good : (n sector : ℕ) (one : IsSectorOf format n sector) (captures : List (List NotedReading)) → length captures ≡ plan.captures
         → AreCaptures plan format streams n captures → IsWith sector (mine n sector) (joined captures)) where
-      all_kept : (n sector : ℕ) → IsSectorOf format n sector → IsKeptBy plan.naming format image o n sector
+      all_kept : (n sector : ℕ) → IsSectorOf format n sector → IsWellHere o n sector
       all_kept n sector one = (let here = said n sector one in kept n sector one here (good n sector one here.captures here.many here.each))
 
       size : length o.image ≡ (row format).image_size
@@ -225,19 +239,19 @@ module _ (laws : Laws) (plan : Plan) (format : Format) (image x : List ℕ) (is 
           (good n sector (record { track = omega (arith, low, many); known = (least, most) }) at.captures at.many at.each))
           ∙ sym (ap (λ (p : TrackPart). p.totals.sectors) at.is)
 
-      pub is_read_whole : IsReadWhole plan.naming format image o
+      pub is_read_whole : IsReadWhole plan format image streams o
       is_read_whole = record {
         no_stop = stop;
-        image_is = images-same laws.names laws.hold laws.joined laws.filled format o.image image size is.size (λ n sector one. (all_kept n sector one).1);
+        image_is = images-same laws.names laws.hold laws.joined laws.filled format o.image image size is.size (λ n sector one. (all_kept n sector one).own);
         all_good =
             ap (λ (d : Planned). d.totals.good) read.is ∙ totals_good read.parts part_good ∙ sym (ap (λ (d : Planned). d.totals.sectors) read.is);
-        lines = λ n sector one. (all_kept n sector one).0;
+        each = λ n sector one. (all_kept n sector one).good;
       }
 
-    either : (n sector : ℕ) (one : IsSectorOf format n sector) (here : IsSaid plan format streams o n sector)
+    either : (n sector : ℕ) (one : IsSectorOf format n sector) (here : IsSaidHere o n sector)
         → IsGoodWithOrLost (verdict (joined here.captures) sector) (agreed (joined here.captures) sector) (mine n sector)
-        → IsKeptBy plan.naming format image o n sector ⊎ IsLostBy plan.naming format o n sector
-    either n sector one here data_is = either_by n sector one here (verdict (joined here.captures) sector) here.line data_is
+        → IsWellHere o n sector ⊎ IsLostHere o n sector
+    either n sector one here data_is = either_by n sector one here (verdict (joined here.captures) sector) refl data_is
 
   -- the cells of a stream of the input
   cells_are : (n q : ℕ) (bytes : List ℕ) (clock : Clock) → IsStreamNumber x (n * plan.captures + q) bytes
@@ -321,8 +335,8 @@ module _ (laws : Laws) (plan : Plan) (format : Format) (image x : List ℕ) (is 
       rightly_by (Bad b first) same data_is = absurd data_is
       rightly_by Missing same data_is = absurd data_is
 
-    rightly : (n sector : ℕ) (one : IsSectorOf format n sector) → 1 ≤ plan.captures → (o : Planned) (here : IsSaid plan format streams o n sector)
-        → IsReadRightly plan format image x o n sector
+    rightly : (n sector : ℕ) (one : IsSectorOf format n sector) → 1 ≤ plan.captures → (o : Planned) (here : IsSaidHere o n sector)
+        → IsReadRightly plan format image streams o n sector (line_number format n sector)
     rightly n sector one some o here =
         let low : 0 < plan.captures = omega (arith, some) in
         let by = (here.each 0 (omega (arith, some, here.many))).each Following (following_used plan.clocks) in
@@ -395,10 +409,10 @@ module _ (laws : Laws) (plan : Plan) (format : Format) (image x : List ℕ) (is 
           ∙ cells-same (ring_of format image n) here.first here.later
 
       module _ (o : Planned) (read : IsPlanned plan (part_by plan.naming) format streams o) where
-        here_said : (n sector : ℕ) → IsSectorOf format n sector → IsSaid plan format streams o n sector
+        here_said : (n sector : ℕ) → IsSectorOf format n sector → IsSaidHere o n sector
         here_said = said o read (erased_stops o read)
 
-        pub is_read_in_part : IsReadInPart plan.naming format image o (LiesInACapture format plan.captures image x set)
+        pub is_read_in_part : IsReadInPart plan format image streams o (LiesInACapture format plan.captures image x set)
         is_read_in_part = record {
           no_stop = erased_stops o read;
           in_one_piece = λ n sector one whole.

@@ -20,7 +20,7 @@ use Rattle.flux_engine.specs.Rules.{RulesAreRead}
 use Rattle.flux_engine.specs.Tracks.{TrackPart, image_bytes, image_of, image_piece, lines_by, part_by}
 use Rattle.flux_engine.specs.declared.plan.Plan.{Plan}
 use Rattle.flux_engine.specs.lemmas.LineNumbers.{sector-line}
-use Rattle.law_captured_plans.specs.Said.{IsSaid, PlannedPartsFitImages, SaysBy, SectorsAreSaid}
+use Rattle.law_captured_plans.specs.Said.{IsSaid, PlannedPartsFitImages, SectorsAreSaid}
 use Rattle.law_captured_plans.proofs.Places.{images_few, one_more, piece_at, pieces_size, stands_in_part}
 use Rattle.flux_engine.specs.lemmas.NoneAgreed.{none_agreed}
 
@@ -114,13 +114,13 @@ module _ (laws : Laws) (plan : Plan) (format : Format) (streams : Streams) (o : 
         ∙ stands_in_part (bytes_of format) (tracks format) is.parts few (λ k below. part_size laws plan format streams k (part_at is.parts k) (is.each k below)) n behind one_size low within
         ∙ in_part laws plan format streams n (part_at is.parts n) (is.each n low) sector one
 
-    says : SaysBy plan.naming format o n sector (verdict (plan_readings n low) sector)
+    says : HasLine o.notes (named_text plan.naming (track_at format n) sector (verdict (plan_readings n low) sector)) (line_number format n sector)
     says =
         let text : List ℕ = named_text plan.naming (track_at format n) sector (verdict (plan_readings n low) sector) in
         subst (λ (d : Planned). HasLine d.notes text (line_number format n sector)) (sym is.is)
         (sector-line laws.one format is.parts few plan.naming plan_readings plan_lines (last_line (totals_over is.parts) o.stop) n low sector one)
 
-    pub said : IsSaid plan format streams o n sector
+    pub said : IsSaid plan format streams o n sector (line_number format n sector)
     said = (let at = is.each n low in record { captures = at.captures; many = at.many; each = at.each; line = says; held = held })
 
     -- it is said of the readings of the track's part

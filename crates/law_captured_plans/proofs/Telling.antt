@@ -18,7 +18,7 @@ use Rattle.turn_merge.specs.declared.verdict.Place.{Place}
 use Rattle.turn_merge.specs.declared.verdict.Verdict.{Verdict}
 use Rattle.turn_merge.specs.declared.verdict.Verdict.TheVariants.{Good}
 use Rattle.flux_engine.specs.Captured.{AreReadingsBy, IsUsed, joined_by}
-use Rattle.flux_engine.specs.DiskLaws.{HasLine, sectors_before, total_lines}
+use Rattle.flux_engine.specs.DiskLaws.{HasLine, line_number, sectors_before, total_lines}
 use Rattle.flux_engine.specs.Disks.{last_line, lines, totals_over}
 use Rattle.flux_engine.specs.PlanLaws.{cells_in}
 use Rattle.flux_engine.specs.Plans.{IsPlanned, Planned, Streams, joined, planned_count}
@@ -151,7 +151,7 @@ module _ (laws : Laws) (plan : Plan) (format : Format) (streams : Streams) (o : 
           (plan_lines laws.sectors plan format streams o is) last (ends_report (totals_over is.parts) o.stop) laws.tell laws.no_sector own track sector outcome number
           fits (subst (λ (text : List ℕ). HasLine text (named_text plan.naming track sector outcome) number) notes_are h)
 
-      told : IsToldBy plan format streams o track sector outcome number
+      told : IsToldBy plan format streams o (line_number format) track sector outcome number
       told = record {
         n = line.n;
         track_is = line.track_is;

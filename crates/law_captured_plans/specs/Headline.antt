@@ -5,17 +5,15 @@ use Rattle.law_decoded_rings.specs.Verdicts.{StandsInOnePiece}
 use Rattle.sector_images.specs.Formats.{row}
 use Rattle.sector_images.specs.Places.{tracks}
 use Rattle.sector_images.specs.declared.format.Format.{Format}
-use Rattle.sector_report.specs.declared.naming.Naming.{Naming}
 use Rattle.turn_merge.specs.Others.{NotedOther}
 use Rattle.turn_merge.specs.Readings.{verdict}
 use Rattle.turn_merge.specs.declared.clock.Clock.TheVariants.{Following, Held}
-use Rattle.turn_merge.specs.declared.verdict.Place.{Place}
 use Rattle.turn_merge.specs.declared.verdict.Verdict.{Verdict}
 use Rattle.turn_merge.specs.declared.verdict.Verdict.TheVariants.{Good, Contradictory, Bad, Missing}
 use Rattle.flux_engine.specs.Captured.{IsUsed}
-use Rattle.flux_engine.specs.DiskLaws.{bytes_at}
+use Rattle.flux_engine.specs.DiskLaws.{bytes_at, line_number}
 use Rattle.flux_engine.specs.PlanLaws.{cells_in}
-use Rattle.flux_engine.specs.Plans.{AreOthersTo, IsPlanned, Planned, joined, streams_in}
+use Rattle.flux_engine.specs.Plans.{AreOthersTo, IsPlanned, Planned, Streams, joined, streams_in}
 use Rattle.flux_engine.specs.Recordings.{track_at}
 use Rattle.flux_engine.specs.Rings.{IsImage, sector_bytes}
 use Rattle.flux_engine.specs.Tracks.{part_by}
@@ -23,32 +21,17 @@ use Rattle.flux_engine.specs.declared.plan.Plan.{Plan}
 use Rattle.law_captured_disks.specs.Headline.{IsBadOrMissing, IsSectorOf}
 use Rattle.law_captured_plans.specs.Inputs.{IsCapturedSet, IsErasedSet, IsSteadyErasedSet}
 use Rattle.law_captured_plans.specs.Inputs.{IsSteadySet, LiesInACapture, pieces_of_capture}
-use Rattle.law_captured_plans.specs.Said.{IsSaid, SaysBy}
+use Rattle.law_captured_plans.specs.Said.{IsSaid, IsSaidGood}
 
--- The report has the sector's line, which says good, with these numbers of good and of bad readings
--- over all that was read of its track, and with this place of the first good one, named so.
-pub record SaysGoodBy (naming : Naming) (format : Format) (o : Planned)
-    (n sector : ℕ) : Type 0 where
-  pub good : ℕ
-  pub bad : ℕ
-  pub first : Place
-  pub line : SaysBy naming format o n sector (Good good bad first)
-
--- the report has the sector's line, which says bad or missing
-pub record SaysLostBy (naming : Naming) (format : Format) (o : Planned)
-    (n sector : ℕ) : Type 0 where
-  pub outcome : Verdict
-  pub lost : IsBadOrMissing outcome
-  pub line : SaysBy naming format o n sector outcome
-
--- All tracks are read, the image is this one, all sectors are counted as good, and the report has a
--- line for each sector that says good.
-pub record IsReadWhole (naming : Naming) (format : Format) (image : List ℕ)
+-- All tracks are read, the image is this one, all sectors are counted as good, and each is said to
+-- be.
+pub record IsReadWhole (plan : Plan) (format : Format) (image : List ℕ) (streams : Streams)
     (o : Planned) : Type 0 where
   pub no_stop : o.stop ≡ None
   pub image_is : o.image ≡ image
   pub all_good : o.totals.good ≡ o.totals.sectors
-  pub lines : (n sector : ℕ) → IsSectorOf format n sector → SaysGoodBy naming format o n sector
+  pub each : (n sector : ℕ) → IsSectorOf format n sector
+      → IsSaidGood plan format streams o n sector (line_number format n sector)
 
 -- From any streams that capture each of an image's written tracks as often as the plan asks for,
 -- once at least, each disturbed within the bounds, what is read by the plan is exactly that image,
@@ -57,29 +40,34 @@ abbrev pub CapturedPlansAreRead : Type 0
 CapturedPlansAreRead = (plan : Plan) (format : Format) (image x : List ℕ) (o : Planned) → 1 ≤ plan.captures → IsImage format image
     → (set : IsCapturedSet format plan.captures image x) → (IsUsed plan.clocks Held → IsSteadySet format plan.captures image x set)
     → IsPlanned plan (part_by plan.naming) format (streams_in plan x) o
-    → IsReadWhole plan.naming format image o
+    → IsReadWhole plan format image (streams_in plan x) o
 
--- the sector's line says good, and the image has its bytes
-abbrev pub IsKeptBy : Naming → Format → List ℕ → Planned → (n sector : ℕ) → Type 0
-IsKeptBy naming format image o n sector =
-    SaysGoodBy naming format o n sector
-    × (bytes_at format o.image (track_at format n) sector
-    ≡ sector_bytes format (track_at format n) image sector)
+-- a sector of track number n is good, with its own bytes
+pub record IsReadWell (plan : Plan) (format : Format) (image : List ℕ) (streams : Streams)
+    (o : Planned) (n sector number : ℕ) : Type 0 where
+  pub good : IsSaidGood plan format streams o n sector number
+  pub own : bytes_at format o.image (track_at format n) sector
+      ≡ sector_bytes format (track_at format n) image sector
 
--- the sector's line says bad or missing, and the image has zeros in its place
-abbrev pub IsLostBy : Naming → Format → Planned → (n sector : ℕ) → Type 0
-IsLostBy naming format o n sector =
-    SaysLostBy naming format o n sector
-    × (bytes_at format o.image (track_at format n) sector ≡ replicate (row format).sector_size 0)
+-- it is bad or missing, and the image has zeros in its place
+pub record IsLost (plan : Plan) (format : Format) (streams : Streams) (o : Planned)
+    (n sector number : ℕ) : Type 0 where
+  pub said : IsSaid plan format streams o n sector number
+  pub lost : IsBadOrMissing (verdict (joined said.captures) sector)
+  pub zeros : bytes_at format o.image (track_at format n) sector
+      ≡ replicate (row format).sector_size 0
 
--- All tracks are read. A sector that lies whole, as this says it, is kept; every other one is kept
--- or lost, so that no line says contradictory.
-pub record IsReadInPart (naming : Naming) (format : Format) (image : List ℕ) (o : Planned)
-    (LiesWhole : (n sector : ℕ) → Type 0) : Type 0 where
+-- All tracks are read. A sector that lies whole, as this says it, is read well; every other one is
+-- read well or lost, so that no line says contradictory.
+pub record IsReadInPart (plan : Plan) (format : Format) (image : List ℕ) (streams : Streams)
+    (o : Planned) (LiesWhole : (n sector : ℕ) → Type 0) : Type 0 where
   pub no_stop : o.stop ≡ None
-  pub in_one_piece : (n sector : ℕ) → IsSectorOf format n sector → LiesWhole n sector → IsKeptBy naming format image o n sector
+  pub in_one_piece : (n sector : ℕ) → IsSectorOf format n sector → LiesWhole n sector
+      → IsReadWell plan format image streams o n sector (line_number format n sector)
   pub each : (n sector : ℕ) → IsSectorOf format n sector
-      → IsKeptBy naming format image o n sector ⊎ IsLostBy naming format o n sector
+      → let number = line_number format n sector in
+      IsReadWell plan format image streams o n sector number
+      ⊎ IsLost plan format streams o n sector number
 
 -- Erased stretches do no harm beyond them, and what one capture lost another one gives.
 abbrev pub ErasedPlansAreRead : Type 0
@@ -87,7 +75,8 @@ ErasedPlansAreRead =
     (plan : Plan) (format : Format) (image x : List ℕ) (o : Planned) → IsImage format image
     → (set : IsErasedSet format plan.captures image x) → (IsUsed plan.clocks Held → IsSteadyErasedSet format plan.captures image x set)
     → IsPlanned plan (part_by plan.naming) format (streams_in plan x) o
-    → IsReadInPart plan.naming format image o (LiesInACapture format plan.captures image x set)
+    → IsReadInPart plan format image (streams_in plan x) o
+    (LiesInACapture format plan.captures image x set)
 
 -- no place of a capture at which a sector stands whole, as at each good reading of the strict
 -- rule, has cells of two pieces
@@ -119,9 +108,9 @@ IsOwnOrContradictory format own held Missing = ⊥
 
 -- a sector of track number n, in the report and in the image, is good with
 -- its own bytes, or contradictory
-pub record IsReadRightly (plan : Plan) (format : Format) (image x : List ℕ) (o : Planned)
-    (n sector : ℕ) : Type 0 where
-  pub said : IsSaid plan format (streams_in plan x) o n sector
+pub record IsReadRightly (plan : Plan) (format : Format) (image : List ℕ) (streams : Streams)
+    (o : Planned) (n sector number : ℕ) : Type 0 where
+  pub said : IsSaid plan format streams o n sector number
   pub is : IsOwnOrContradictory format (sector_bytes format (track_at format n) image sector)
       (bytes_at format o.image (track_at format n) sector) (verdict (joined said.captures) sector)
 
@@ -130,7 +119,7 @@ pub record IsNeverWrong (plan : Plan) (format : Format) (image x : List ℕ)
     (o : Planned) : Type 0 where
   pub no_stop : o.stop ≡ None
   pub each : (n sector : ℕ) → IsSectorOf format n sector
-      → IsReadRightly plan format image x o n sector
+      → IsReadRightly plan format image (streams_in plan x) o n sector (line_number format n sector)
 
 -- From any such streams what is read by the plan is never wrong unsaid, whatever a held clock reads
 -- where the drives do not keep their speed: a sector that is called good has its own bytes, and

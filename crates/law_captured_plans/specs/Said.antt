@@ -28,30 +28,34 @@ use Rattle.flux_engine.specs.declared.plan.Clocks.TheVariants.{FollowingAlone}
 use Rattle.flux_engine.specs.declared.plan.Plan.{Plan}
 use Rattle.flux_engine.specs.declared.plan.Rule.TheVariants.{Strict}
 
--- the report's line of a sector of track number n, after those of all sectors
--- before it, names this verdict
-abbrev pub SaysBy : Naming → Format → Planned → (n sector : ℕ) → Verdict → Type 0
-SaysBy naming format o n sector outcome = HasLine o.notes
-    (named_text naming (track_at format n) sector outcome) (line_number format n sector)
-
--- The report has the sector's line, with the verdict over all that was read of its
+-- The report has the sector's line at this number, with the verdict over all that was read of its
 -- track. At its place in the image stand the bytes that all good readings hold, where
 -- no two differ, and else zeros.
 pub record IsSaid (plan : Plan) (format : Format) (streams : Streams) (o : Planned)
-    (n sector : ℕ) : Type 0 where
+    (n sector number : ℕ) : Type 0 where
   pub captures : List (List NotedReading)
   pub many : length captures ≡ plan.captures
   pub each : AreCaptures plan format streams n captures
-  pub line : SaysBy plan.naming format o n sector (verdict (joined captures) sector)
+  pub line : HasLine o.notes
+      (named_text plan.naming (track_at format n) sector (verdict (joined captures) sector)) number
   pub held : bytes_at format o.image (track_at format n) sector
       ≡ image_bytes (sectors_of format (track_at format n)) (joined captures) sector
 
--- so it is with each sector of the tracks that were read
+-- it is good over all that was read of its track
+pub record IsSaidGood (plan : Plan) (format : Format) (streams : Streams) (o : Planned)
+    (n sector number : ℕ) : Type 0 where
+  pub said : IsSaid plan format streams o n sector number
+  pub good : ℕ
+  pub bad : ℕ
+  pub first : Place
+  pub is : verdict (joined said.captures) sector ≡ Good good bad first
+
+-- each sector of the tracks that were read is said, after those of all sectors before it
 abbrev pub SectorsAreSaid : Type 0
 SectorsAreSaid = (plan : Plan) (format : Format) (streams : Streams) (o : Planned)
     → IsPlanned plan (part_by plan.naming) format streams o
     → (n sector : ℕ) → n < planned_count format o.stop → IsSector format (track_at format n) sector
-    → IsSaid plan format streams o n sector
+    → IsSaid plan format streams o n sector (line_number format n sector)
 
 -- the parts of any first tracks have no more bytes than the format's image
 abbrev pub PlannedPartsFitImages : Type 0
@@ -84,27 +88,34 @@ AreShort streams = (n q : ℕ) → (streams n q).fault ≡ None
 abbrev pub InputsAreShort : Type 0
 InputsAreShort = (plan : Plan) (x : List ℕ) → AreShort (streams_in plan x)
 
--- Where a sector's line, of whatever numbers that fit in it, is a line of the report, it is the
--- line of that sector of a track that was read, and its verdict, with the sources and the places
--- that it names, is the one over all that was read of the track.
+-- The line is that of this sector of a track that was read, and stands at the sector's number. Its
+-- verdict, with the sources and the places that it names, is the one over all that was read of the
+-- track.
 pub record IsToldBy (plan : Plan) (format : Format) (streams : Streams) (o : Planned)
-    (track : TrackId) (sector : ℕ) (outcome : Verdict) (number : ℕ) : Type 0 where
+    (number_of : (n sector : ℕ) → ℕ) (track : TrackId) (sector : ℕ) (outcome : Verdict)
+    (number : ℕ) : Type 0 where
   pub n : ℕ
   pub track_is : track ≡ track_at format n
   pub low : n < planned_count format o.stop
   pub known : IsSector format (track_at format n) sector
-  pub said : IsSaid plan format streams o n sector
+  pub said : IsSaid plan format streams o n sector (number_of n sector)
   pub is : verdict (joined said.captures) sector ≡ outcome
-  pub number_is : number ≡ line_number format n sector
+  pub number_is : number ≡ number_of n sector
+
+-- so it is with each line of a report that has the text of a sector's line, of
+-- whatever numbers that fit in it
+abbrev pub AreToldBy : Plan → Format → Streams → Planned → (number_of : (n sector : ℕ) → ℕ) → Type 0
+AreToldBy plan format streams o number_of =
+    (track : TrackId) (sector : ℕ) (outcome : Verdict) (number : ℕ)
+    → LineFits plan.naming track sector outcome
+    → HasLine o.notes (named_text plan.naming track sector outcome) number
+    → IsToldBy plan format streams o number_of track sector outcome number
 
 abbrev pub LinesTellInPlans : Type 0
 LinesTellInPlans = (plan : Plan) (format : Format) (streams : Streams) (o : Planned)
     → plan.captures ≤ 16 → plan.rule ≡ Strict → TellsSources plan.naming plan.captures plan.clocks
     → AreShort streams → IsPlanned plan (part_by plan.naming) format streams o
-    → (track : TrackId) (sector : ℕ) (outcome : Verdict) (number : ℕ)
-    → LineFits plan.naming track sector outcome
-    → HasLine o.notes (named_text plan.naming track sector outcome) number
-    → IsToldBy plan format streams o track sector outcome number
+    → AreToldBy plan format streams o (line_number format)
 
 -- A sector of track number n is rightly called good, and its first good reading is at this place:
 -- it is a place of a capture, by a clock of the plan, in its turn there, whose cells hold the

@@ -36,8 +36,10 @@ use Rattle.turn_merge.specs.Others.{DataAreKnown, NotedOther, has_untold, others
 use Rattle.turn_merge.specs.Readings.{NotedReading, verdict}
 use Rattle.turn_merge.specs.declared.verdict.Verdict.{Verdict}
 use Rattle.turn_merge.specs.declared.verdict.Verdict.TheVariants.{Bad, Contradictory, Good, Missing}
-use Rattle.law_read_dumps.specs.Complete.{CompleteIsAll, IsAllRead, IsSaidGood}
-use Rattle.law_read_dumps.specs.Said.{EachIsSaid, IsSaid}
+use Rattle.law_captured_plans.specs.Said.{IsSaid, IsSaidGood}
+use Rattle.law_read_dumps.specs.Complete.{CompleteIsAll, IsAllRead}
+use Rattle.law_read_dumps.specs.Lines.{EachIsSaid, line_number}
+use Rattle.law_read_dumps.specs.Said.{as_planned}
 use Rattle.law_read_dumps.proofs.GoodTotals.{each_counted, each_part}
 use Rattle.law_read_dumps.proofs.OtherData.{AreNotedTo, IsBare, NoneIn, bare_in, none_in, noted_names, noted_others}
 use Rattle.law_read_dumps.proofs.Streams.{captures_are}
@@ -58,12 +60,13 @@ looks_good Always sectors some = refl
 looks_good WhereGood sectors some = lt-ltb 0 sectors.good some
 
 -- a verdict that is good
-good_by : (disk : DumpDisk) (came : Streams) (o : DumpsRead) (n sector : ℕ) (said : IsSaid disk came o n sector)
-    → (v : Verdict) → verdict (joined said.captures) sector ≡ v → is_good v ≡ true → IsSaidGood disk came o n sector
-good_by disk came o n sector said (Good g b place) same good = record { said = said; good = g; bad = b; first = place; is = same }
-good_by disk came o n sector said (Contradictory g b first other) same good = absurd (cc)
-good_by disk came o n sector said (Bad b first) same good = absurd (cc)
-good_by disk came o n sector said Missing same good = absurd (cc)
+good_by : (disk : DumpDisk) (came : Streams) (o : DumpsRead) (n sector number : ℕ) (said : IsSaid (plan_of disk) disk.format came (as_planned o) n sector number)
+    → (v : Verdict) → verdict (joined said.captures) sector ≡ v → is_good v ≡ true → (number : ℕ) × IsSaidGood (plan_of disk) disk.format came (as_planned o) n sector number
+good_by disk came o n sector number said (Good g b place) same good =
+    (number, record { said = said; good = g; bad = b; first = place; is = same })
+good_by disk came o n sector number said (Contradictory g b first other) same good = absurd (cc)
+good_by disk came o n sector number said (Bad b first) same good = absurd (cc)
+good_by disk came o n sector number said Missing same good = absurd (cc)
 
 module _ (laws : Laws) (disk : DumpDisk) (shelf : Option (List File)) (o : DumpsRead) (is : IsDumpsRead disk shelf o) where
   abbrev format : Format
@@ -74,6 +77,9 @@ module _ (laws : Laws) (disk : DumpDisk) (shelf : Option (List File)) (o : Dumps
 
   abbrev part : ℕ → TrackPart
   part n = part_at is.parts n
+
+  abbrev IsGood : (n sector : ℕ) → Type 0
+  IsGood n sector = (number : ℕ) × IsSaidGood (plan_of disk) format came (as_planned o) n sector number
 
   module _ (n : ℕ) (low : n < length is.parts) where
     abbrev at : IsPlannedPart (plan_of disk) read_part format came n (part n)
@@ -95,24 +101,24 @@ module _ (laws : Laws) (disk : DumpDisk) (shelf : Option (List File)) (o : Dumps
     part_few = omega (arith, good_is, sectors_is, count_by-le-length is_good verdicts)
 
     -- as many as there are
-    part_good : (part n).totals.good ≡ (part n).totals.sectors → (sector : ℕ) → IsSectorOf format n sector → IsSaidGood disk came o n sector
+    part_good : (part n).totals.good ≡ (part n).totals.sectors → (sector : ℕ) → IsSectorOf format n sector → IsGood n sector
     part_good all sector one =
         let said = laws.said disk shelf o is n sector one in
         let good : is_good (verdict_of sector) ≡ true =
         each_counted verdict_of (sectors_of format (track_at format n)).first (sectors_of format (track_at format n)).count (sym good_is ∙ all ∙ sectors_is) sector one.known.0 one.known.1 in
         let same : verdict (joined said.captures) sector ≡ verdict_of sector =
-        ap (λ (cs : List (List NotedReading)). verdict (joined cs) sector) (captures_are laws.readings disk shelf o is n sector low said) in
-        good_by disk came o n sector said (verdict_of sector) same good
+        ap (λ (cs : List (List NotedReading)). verdict (joined cs) sector) (captures_are laws.readings disk shelf o is n sector (line_number disk came is.others n sector) low said) in
+        good_by disk came o n sector (line_number disk came is.others n sector) said (verdict_of sector) same good
 
-    good_part : ((sector : ℕ) → IsSectorOf format n sector → IsSaidGood disk came o n sector) → (part n).totals.good ≡ (part n).totals.sectors
+    good_part : ((sector : ℕ) → IsSectorOf format n sector → IsGood n sector) → (part n).totals.good ≡ (part n).totals.sectors
     good_part each =
         good_is
         ∙ all_counted verdict_of (sectors_of format (track_at format n)).first (sectors_of format (track_at format n)).count
         (λ sector least most.
         let here = each sector (record { track = omega (arith, low, is.all.many); known = (least, most) }) in
-        let same : verdict_of sector ≡ verdict (joined here.said.captures) sector =
-        sym (ap (λ (cs : List (List NotedReading)). verdict (joined cs) sector) (captures_are laws.readings disk shelf o is n sector low here.said)) in
-        ap is_good (same ∙ here.is))
+        let same : verdict_of sector ≡ verdict (joined here.1.said.captures) sector =
+        sym (ap (λ (cs : List (List NotedReading)). verdict (joined cs) sector) (captures_are laws.readings disk shelf o is n sector here.0 low here.1.said)) in
+        ap is_good (same ∙ here.1.is))
         ∙ sym sectors_is
 
     abbrev others : List NotedOther

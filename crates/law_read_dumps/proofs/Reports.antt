@@ -23,12 +23,12 @@ use Rattle.sector_report.specs.declared.dump_lines.Passed.{Passed}
 use Rattle.sector_report.specs.declared.naming.Naming.TheVariants.{ByCaptureAndClock}
 use Rattle.track_shelf.specs.Files.{File}
 use Rattle.turn_merge.specs.Readings.{NotedReading, verdict}
-use Rattle.law_read_dumps.specs.Lines.{HasNoOtherLines, IsEndLine, IsLineOfReport, IsSectorLine, IsTrackLine, LinesAreKnown, OtherFilesAreSaid, PassedStreamsAreSaid, ReportsHaveNoOtherLines, SectorsHaveTheirNumbers, line_number, other_tracks, traced_count}
-use Rattle.law_read_dumps.specs.Said.{EachIsSaid, IsSaid, came_in}
+use Rattle.law_read_dumps.specs.Lines.{EachIsSaid, HasNoOtherLines, IsEndLine, IsLineOfReport, IsSectorLine, IsTrackLine, LinesAreKnown, OtherFilesAreSaid, PassedStreamsAreSaid, ReportsHaveNoOtherLines, line_number, other_tracks, traced_count}
+use Rattle.law_read_dumps.specs.Said.{came_in}
 use Rattle.law_read_dumps.proofs.BesideLines.{beside_tell, count_before, file_line}
 use Rattle.law_read_dumps.proofs.Counts.{all_lines_counted}
 use Rattle.law_read_dumps.proofs.Lines.{Tells, has_line, tells-append, tells-line, tells-map}
-use Rattle.law_read_dumps.proofs.ReportLines.{IsOnDisk, OnDisk, first_line, front_tells, lines_before, sector_has_line, sector_line, stream_has_line, Laws as LineLaws}
+use Rattle.law_read_dumps.proofs.ReportLines.{IsOnDisk, OnDisk, first_line, front_tells, lines_before, sector_line, stream_has_line, Laws as LineLaws}
 use Rattle.law_read_dumps.proofs.Streams.{captures_are}
 
 -- what the crates below promise, and the law before
@@ -120,13 +120,6 @@ module _ (laws : Laws) (disk : DumpDisk) (shelf : Option (List File)) (o : Dumps
             (laws.lines.dump_lines.passed (beside_at disk.stepping disk.format n) dump why),
       )
 
-  numbered : (n sector : ℕ) → IsSectorOf disk.format n sector → (said : IsSaid disk (came_in is) o n sector)
-      → HasLine o.notes (named_text ByCaptureAndClock (track_at disk.format n) sector (verdict (joined said.captures) sector)) (line_number disk (came_in is) is.others n sector)
-  numbered n sector one said =
-      let low : n < length is.parts = omega (arith, one.track, is.all.many) in
-      subst (λ (cs : List (List NotedReading)). HasLine o.notes (named_text ByCaptureAndClock (track_at disk.format n) sector (verdict (joined cs) sector)) (line_number disk (came_in is) is.others n sector))
-      (sym (captures_are laws.readings disk shelf o is n sector low said)) (sector_has_line laws.lines disk shelf o is n low sector one)
-
   module _ (number : ℕ) where
     of_sector : (line : List ℕ) → IsOnDisk disk.format (length is.parts) (first_line laws.lines disk shelf o is) (sector_line laws.lines disk shelf o is) number line
         → IsSectorLine disk (came_in is) o is.others number line
@@ -141,7 +134,7 @@ module _ (laws : Laws) (disk : DumpDisk) (shelf : Option (List File)) (o : Dumps
           line_is =
               s.line_is
               ∙ sym (ap (λ (cs : List (List NotedReading)). named_text ByCaptureAndClock (track_at disk.format s.n) s.sector (verdict (joined cs) s.sector))
-              (captures_are laws.readings disk shelf o is s.n s.sector s.low said));
+              (captures_are laws.readings disk shelf o is s.n s.sector (line_number disk (came_in is) is.others s.n s.sector) s.low said));
           number_is = s.number_is;
         }
 
@@ -162,9 +155,6 @@ module _ (laws : Laws) (disk : DumpDisk) (shelf : Option (List File)) (o : Dumps
               inl (subst Known (sym h.ends) (line_here (h.front ++ 10 ∷ []) (notes_tell.each [] number h.front low there)))
           | inr past ↦ inr (h.ends ∙ ap (λ (f : List ℕ). f ++ 10 ∷ []) (nothing_behind number h.front past there), omega (arith, past, notes_tell.skips.ends))
         ]
-
-pub sectors_have_their_numbers : Laws → SectorsHaveTheirNumbers
-sectors_have_their_numbers laws disk shelf o is n sector one said = numbered laws disk shelf o is n sector one said
 
 pub passed_streams_are_said : Laws → PassedStreamsAreSaid
 passed_streams_are_said laws disk shelf o is n dump why low few is_passed =

@@ -16,16 +16,15 @@ use Rattle.flux_engine.specs.Rules.{RulesAreRead}
 use Rattle.flux_engine.specs.Tracks.{TrackPart, image_bytes, named_part, part_by}
 use Rattle.flux_engine.specs.declared.plan.Plan.{Plan}
 use Rattle.flux_engine.specs.lemmas.PartLaws.{no_part}
-use Rattle.law_captured_disks.specs.Headline.{IsSectorOf}
-use Rattle.law_captured_plans.specs.Said.{IsSaid as IsSaidByPlan, SectorsAreSaid}
+use Rattle.law_captured_plans.specs.Said.{SectorsAreSaid}
 use Rattle.sector_images.specs.declared.format.Format.{Format}
 use Rattle.sector_report.specs.declared.naming.Naming.TheVariants.{ByCaptureAndClock}
 use Rattle.track_shelf.specs.Files.{File}
 use Rattle.turn_merge.specs.Readings.{NotedReading, verdict}
 use Rattle.turn_merge.specs.declared.verdict.Verdict.{Verdict}
 use Rattle.turn_merge.specs.declared.verdict.Verdict.TheVariants.{Bad, Contradictory, Good, Missing}
-use Rattle.law_read_dumps.specs.Said.{GoodStaysOrIsContradicted, IsSaid, IsSaidRightly, SaidIsRight, came_in}
-use Rattle.law_read_dumps.specs.Lines.{line_number}
+use Rattle.law_read_dumps.specs.Said.{GoodStaysOrIsContradicted, IsSaidRightly, SaidIsRight}
+use Rattle.law_read_dumps.specs.Lines.{AreSaid}
 use Rattle.law_read_dumps.proofs.ReportLines.{sector_has_line, Laws as LineLaws}
 
 -- what the crates below promise
@@ -142,17 +141,16 @@ module _ (laws : Laws) (disk : DumpDisk) (shelf : Option (List File)) (o : Dumps
       ap (λ (p : TrackPart). p.image) (plain_is n known) ∙ image_of_one n known (cases_lt n (length parts)))
       ∙ sym (ap (λ (d : DumpsRead). d.image) is.is)
 
-  pub each_said : (n sector : ℕ) → IsSectorOf format n sector → IsSaid disk (came_in is) o n sector
+  pub each_said : AreSaid disk came o is.others
   each_said n sector one =
       let known : n < length parts = omega (arith, one.track, is.all.many) in
       let here = at n known in
-      let said : IsSaidByPlan plan format came planned n sector = laws.said plan format came planned is_planned n sector one.track one.known in
+      let said = laws.said plan format came planned is_planned n sector one.track one.known in
       let same : said.captures ≡ here.captures = laws.readings plan format came n said.captures here.captures said.each here.each (said.many ∙ sym here.many) in
       record {
         captures = here.captures;
         many = here.many;
         each = here.each;
-        number = line_number disk came is.others n sector;
         line = sector_has_line laws.lines disk shelf o is n known sector one;
         held =
             ap (λ (image : List ℕ). bytes_at format image (track n) sector) (sym image_is)
@@ -162,7 +160,7 @@ module _ (laws : Laws) (disk : DumpDisk) (shelf : Option (List File)) (o : Dumps
 
 -- what a line says is right
 pub said_is_right : RulesAreRead → GoodIsRightInPlans → ContradictionsAreNamedInPlans → SaidIsRight
-said_is_right rules good contradicted disk came o n sector said = by (verdict (joined said.captures) sector) refl
+said_is_right rules good contradicted disk came o n sector number said = by (verdict (joined said.captures) sector) refl
   where
     by : (v : Verdict) → verdict (joined said.captures) sector ≡ v → IsSaidRightly disk came o n sector v
     by (Good g b first) is =
@@ -182,5 +180,5 @@ said_is_right rules good contradicted disk came o n sector said = by (verdict (j
     by Missing is = tt
 
 pub good_stays : StrictGoodStays → GoodStaysOrIsContradicted
-good_stays stays disk came o n sector said q low clock used found all good bad first is =
+good_stays stays disk came o n sector number said q low clock used found all good bad first is =
     stays (plan_of disk) disk.format came n said.captures said.many said.each q low clock used found all sector good bad first is

@@ -24,7 +24,8 @@ use Rattle.sector_images.specs.declared.format.Format.{Format}
 use Rattle.sector_report.specs.declared.dump_lines.Passed.TheVariants.{Failed}
 use Rattle.track_shelf.specs.Files.{File, file_at}
 use Rattle.turn_merge.specs.Others.{NotedOther}
-use Rattle.law_read_dumps.specs.Said.{AllOfDumpsIsOne, BesideStreamsAreOfFiles, IsSaid, StreamsAreOfFiles, came_in}
+use Rattle.law_captured_plans.specs.Said.{IsSaid}
+use Rattle.law_read_dumps.specs.Said.{AllOfDumpsIsOne, BesideStreamsAreOfFiles, StreamsAreOfFiles, as_planned, came_in}
 
 abbrev pub none_seen : Seen
 none_seen = record { fault = None; passed = None; times = []; indexes = [] }
@@ -170,8 +171,8 @@ beside_streams_are_of_files disk files o is number dump low few =
     (place_low (length is.beside.came) (length is.beside.others) (length disk.dumps) number dump is.beside.are.all low few)
 
 -- whatever list has all readings of each stream of a track
-pub captures_are : ReadingsInPlansAreOne → (disk : DumpDisk) (told : Option (List File)) (o : DumpsRead) (is : IsDumpsRead disk told o) (n sector : ℕ) (low : n < length is.parts)
-    (said : IsSaid disk (came_in is) o n sector) → said.captures ≡ (is.all.read.each n low).captures
-captures_are one disk told o is n sector low said =
+pub captures_are : ReadingsInPlansAreOne → (disk : DumpDisk) (told : Option (List File)) (o : DumpsRead) (is : IsDumpsRead disk told o) (n sector number : ℕ) (low : n < length is.parts)
+    (said : IsSaid (plan_of disk) disk.format (came_in is) (as_planned o) n sector number) → said.captures ≡ (is.all.read.each n low).captures
+captures_are one disk told o is n sector number low said =
     let at = is.all.read.each n low in
     one (plan_of disk) disk.format (came_in is) n said.captures at.captures said.each at.each (said.many ∙ sym at.many)

@@ -3,12 +3,12 @@
 use Rattle.std.specs.Prelude.{◌≡◌, ◌<◌, ◌↔◌, IsTrue, ℕ, Bool, List, drop, length, Option}
 use Rattle.disk_recordings.specs.Members.{as_controllers_read, header_at, named_at, whole_data_of}
 use Rattle.dump_reading.specs.Beside.{beside_at, beside_tracks, captures_at, near_track}
-use Rattle.dump_reading.specs.Outcomes.{DumpDisk, DumpsRead, IsDumpsRead, LookedBeside}
+use Rattle.dump_reading.specs.Outcomes.{DumpDisk, DumpsRead, IsDumpsRead, LookedBeside, plan_of}
 use Rattle.dump_reading.specs.Totals.{is_complete}
 use Rattle.flux_base.specs.declared.header_name.HeaderName.{HeaderName}
 use Rattle.flux_engine.specs.Captured.{IsUsed}
 use Rattle.flux_engine.specs.PlanLaws.{cells_in}
-use Rattle.flux_engine.specs.Plans.{Seen, Streams, joined}
+use Rattle.flux_engine.specs.Plans.{Seen, Streams}
 use Rattle.flux_engine.specs.Recordings.{cells_by, track_at}
 use Rattle.flux_engine.specs.Rules.{no_header}
 use Rattle.frame_law.specs.Others.{IsOther}
@@ -16,20 +16,9 @@ use Rattle.law_captured_disks.specs.Headline.{IsSectorOf}
 use Rattle.sector_images.specs.Places.{tracks}
 use Rattle.sector_images.specs.declared.format.Format.{Format}
 use Rattle.track_shelf.specs.Files.{File}
-use Rattle.turn_merge.specs.Readings.{verdict}
 use Rattle.turn_merge.specs.declared.clock.Clock.{Clock}
-use Rattle.turn_merge.specs.declared.verdict.Place.{Place}
-use Rattle.turn_merge.specs.declared.verdict.Verdict.TheVariants.{Good}
-use Rattle.law_read_dumps.specs.Said.{IsSaid, came_in}
-
--- The sector is good over all readings of its track, of all dumps and by both clocks.
-pub record IsSaidGood (disk : DumpDisk) (came : Streams) (o : DumpsRead)
-    (n sector : ℕ) : Type 0 where
-  pub said : IsSaid disk came o n sector
-  pub good : ℕ
-  pub bad : ℕ
-  pub first : Place
-  pub is : verdict (joined said.captures) sector ≡ Good good bad first
+use Rattle.law_captured_plans.specs.Said.{IsSaidGood}
+use Rattle.law_read_dumps.specs.Said.{as_planned, came_in}
 
 -- Somewhere in the cells, as controllers read them, a header with a right check value stands that
 -- is none of those of a track's sectors, and after it whole data of the size that its name tells.
@@ -62,7 +51,8 @@ cells_beside disk came number dump clock =
 -- cells of a stream of such a track no header has any.
 pub record IsAllRead (disk : DumpDisk) (told : Option (List File)) (came : Streams)
     (beside : LookedBeside disk told) (o : DumpsRead) : Type 0 where
-  pub good : (n sector : ℕ) → IsSectorOf disk.format n sector → IsSaidGood disk came o n sector
+  pub good : (n sector : ℕ) → IsSectorOf disk.format n sector
+      → (number : ℕ) × IsSaidGood (plan_of disk) disk.format came (as_planned o) n sector number
   pub no_other : (n dump : ℕ) (clock : Clock) → n < length (tracks disk.format)
       → dump < length disk.dumps → IsUsed disk.clocks clock
       → ¬ HasOtherData disk.format n (cells_in disk.format came n dump clock)

@@ -5,7 +5,7 @@ use Rattle.std.specs.Prelude.{[], ◌∷◌, ◌++◌, count_by, get_or, length,
 use Rattle.std.specs.Prelude.{None}
 use Rattle.std.specs.List.{range_with_len}
 use Rattle.dump_reading.specs.Beside.{beside_at, captures_at}
-use Rattle.dump_reading.specs.Outcomes.{DumpDisk, DumpsRead, IsDumpsRead}
+use Rattle.dump_reading.specs.Outcomes.{DumpDisk, DumpsRead, IsDumpsRead, plan_of}
 use Rattle.dump_reading.specs.Reports.{trace_count}
 use Rattle.dump_reading.specs.declared.totals.DumpTotals.{DumpTotals}
 use Rattle.flux_base.specs.declared.track.TrackId.{TrackId}
@@ -14,6 +14,7 @@ use Rattle.flux_engine.specs.DiskLaws.{HasLine}
 use Rattle.flux_engine.specs.Plans.{Seen, Streams, joined, passed_to}
 use Rattle.flux_engine.specs.Recordings.{sectors_of, track_at}
 use Rattle.law_captured_disks.specs.Headline.{IsSectorOf}
+use Rattle.law_captured_plans.specs.Said.{IsSaid}
 use Rattle.sector_images.specs.Formats.{row}
 use Rattle.sector_images.specs.Places.{tracks}
 use Rattle.sector_report.specs.DumpLines.{other_text, passed_text, traces_text, unread_text}
@@ -27,7 +28,7 @@ use Rattle.track_shelf.specs.Files.{File}
 use Rattle.turn_merge.specs.Others.{NotedOther, has_data, has_untold, others_over}
 use Rattle.turn_merge.specs.Readings.{verdict}
 use Rattle.turn_merge.specs.declared.others.OtherTold.{OtherTold}
-use Rattle.law_read_dumps.specs.Said.{IsSaid, came_in}
+use Rattle.law_read_dumps.specs.Said.{as_planned, came_in}
 
 -- how many streams of track number n are passed over
 abbrev pub passed_on : DumpDisk → Streams → ℕ → ℕ
@@ -57,19 +58,16 @@ line_number disk came others n sector =
     sum_by (lines_on disk came others) (range_with_len 0 n) + passed_on disk came n
     + (sector - (row disk.format).first_sector)
 
--- the report has each sector's line at its number, with the verdict over all readings of its track
-abbrev pub HaveTheirNumbers : DumpDisk → Streams → DumpsRead → (others : List (List NotedOther))
-    → Type 0
-HaveTheirNumbers disk came o others =
-    (n sector : ℕ) → IsSectorOf disk.format n sector → (said : IsSaid disk came o n sector)
-    → HasLine o.notes
-    (named_text ByCaptureAndClock (track_at disk.format n) sector
-    (verdict (joined said.captures) sector)) (line_number disk came others n sector)
+-- each sector of the disk is said, its line at its number
+abbrev pub AreSaid : DumpDisk → Streams → DumpsRead → (others : List (List NotedOther)) → Type 0
+AreSaid disk came o others = (n sector : ℕ) → IsSectorOf disk.format n sector
+    → IsSaid (plan_of disk) disk.format came (as_planned o) n sector
+    (line_number disk came others n sector)
 
-abbrev pub SectorsHaveTheirNumbers : Type 0
-SectorsHaveTheirNumbers =
+abbrev pub EachIsSaid : Type 0
+EachIsSaid =
     (disk : DumpDisk) (told : Option (List File)) (o : DumpsRead) (is : IsDumpsRead disk told o)
-    → HaveTheirNumbers disk (came_in is) o is.others
+    → AreSaid disk (came_in is) o is.others
 
 -- Tracks that were looked at: which they are, how many, why a stream of a dump is told as passed
 -- over, and the other headers of each.
@@ -152,7 +150,8 @@ pub record IsSectorLine (disk : DumpDisk) (came : Streams) (o : DumpsRead)
   pub n : ℕ
   pub sector : ℕ
   pub one : IsSectorOf disk.format n sector
-  pub said : IsSaid disk came o n sector
+  pub said : IsSaid (plan_of disk) disk.format came (as_planned o) n sector
+      (line_number disk came others n sector)
   pub line_is : line
       ≡ named_text ByCaptureAndClock (track_at disk.format n) sector
       (verdict (joined said.captures) sector)

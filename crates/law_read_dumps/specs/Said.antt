@@ -1,5 +1,5 @@
 -- What dumps that were read say of each sector of the disk, in the report and in the image.
-use Rattle.std.specs.Prelude.{◌≡◌, ◌<◌, ℕ, List, length, Option, Some}
+use Rattle.std.specs.Prelude.{◌≡◌, ◌<◌, ℕ, List, length, None, Option, Some}
 use Rattle.disk_recordings.specs.Members.{header_at, sector_at}
 use Rattle.dump_reading.specs.Beside.{LinesOf, beside_at, captures_at}
 use Rattle.dump_reading.specs.DumpStreams.{FailedAlike, IsOrFailed, path_in, seen_of}
@@ -8,18 +8,14 @@ use Rattle.dump_reading.specs.Outcomes.{plan_of}
 use Rattle.dump_reading.specs.declared.totals.DumpTotals.{DumpTotals}
 use Rattle.flux_base.specs.declared.track.TrackId.{TrackId}
 use Rattle.flux_engine.specs.Captured.{IsUsed}
-use Rattle.flux_engine.specs.DiskLaws.{HasLine, bytes_at}
 use Rattle.flux_engine.specs.LoopProgress.{streams_over}
 use Rattle.flux_engine.specs.PlanLaws.{IsGoodTooOrContradicted, IsRightlyContradictoryIn, cells_in}
-use Rattle.flux_engine.specs.Plans.{AreCaptures, PartOf, Seen, Streams, joined}
-use Rattle.flux_engine.specs.Recordings.{sectors_of, track_at}
-use Rattle.flux_engine.specs.Tracks.{Found, TrackPart, image_bytes, readings_in}
+use Rattle.flux_engine.specs.Plans.{PartOf, Planned, Seen, Streams, joined}
+use Rattle.flux_engine.specs.Recordings.{track_at}
+use Rattle.flux_engine.specs.Tracks.{Found, TrackPart, readings_in}
 use Rattle.frame_law.specs.Readings.{AreReadings}
-use Rattle.law_captured_disks.specs.Headline.{IsSectorOf}
-use Rattle.law_captured_plans.specs.Said.{IsRightlyGood}
+use Rattle.law_captured_plans.specs.Said.{IsRightlyGood, IsSaid}
 use Rattle.sector_images.specs.Places.{tracks}
-use Rattle.sector_report.specs.Lines.{named_text}
-use Rattle.sector_report.specs.declared.naming.Naming.TheVariants.{ByCaptureAndClock}
 use Rattle.track_shelf.specs.Files.{File, file_at}
 use Rattle.turn_merge.specs.Readings.{NotedReading, verdict}
 use Rattle.turn_merge.specs.declared.clock.Clock.{Clock}
@@ -81,25 +77,10 @@ AllOfDumpsIsOne =
     → FailedAlike p.streams q.streams
     → FailedAlike p.beside.came q.beside.came → a ≡ b
 
--- The report has the sector's line, with the verdict over all readings of its track, of all dumps
--- and by both clocks. At its place in the image stand the bytes that all good readings hold, where
--- no two differ, and else zeros.
-pub record IsSaid (disk : DumpDisk) (came : Streams) (o : DumpsRead) (n sector : ℕ) : Type 0 where
-  pub captures : List (List NotedReading)
-  pub many : length captures ≡ length disk.dumps
-  pub each : AreCaptures (plan_of disk) disk.format came n captures
-  pub number : ℕ
-  pub line : HasLine o.notes
-      (named_text ByCaptureAndClock (track_at disk.format n) sector
-      (verdict (joined captures) sector)) number
-  pub held : bytes_at disk.format o.image (track_at disk.format n) sector
-      ≡ image_bytes (sectors_of disk.format (track_at disk.format n)) (joined captures) sector
-
--- so it is with each sector of the disk
-abbrev pub EachIsSaid : Type 0
-EachIsSaid =
-    (disk : DumpDisk) (told : Option (List File)) (o : DumpsRead) (is : IsDumpsRead disk told o)
-    → (n sector : ℕ) → IsSectorOf disk.format n sector → IsSaid disk (came_in is) o n sector
+-- What dumps come to, as that of a plan that nothing stopped: so what is said of a sector by a plan
+-- is said by their plan, over all readings of its track, of all dumps and by their clocks.
+abbrev pub as_planned : DumpsRead → Planned
+as_planned o = record { image = o.image; notes = o.notes; totals = o.totals.sectors; stop = None }
 
 -- what the sector's line says is right: where it says good, of the dump, the clock and
 -- the place that it names; and where it says contradictory, both places that it names
@@ -113,15 +94,16 @@ IsSaidRightly disk came o n sector (Contradictory good bad first other) =
 IsSaidRightly disk came o n sector _ = Unit {0}
 
 abbrev pub SaidIsRight : Type 0
-SaidIsRight = (disk : DumpDisk) (came : Streams) (o : DumpsRead) (n sector : ℕ)
-    (said : IsSaid disk came o n sector)
+SaidIsRight = (disk : DumpDisk) (came : Streams) (o : DumpsRead) (n sector number : ℕ)
+    (said : IsSaid (plan_of disk) disk.format came (as_planned o) n sector number)
     → IsSaidRightly disk came o n sector (verdict (joined said.captures) sector)
 
 -- What is good by the strict rule over what one clock reads of one dump, as `decode` reads by the
 -- first clock, is good over all that is read of the dumps, with the same bytes, or contradictory.
-abbrev pub StaysOrIsContradicted : (disk : DumpDisk) (came : Streams) (o : DumpsRead) (n sector : ℕ)
-    → IsSaid disk came o n sector → Type 0
-StaysOrIsContradicted disk came o n sector said = (q : ℕ) → q < length disk.dumps → (clock : Clock)
+abbrev pub StaysOrIsContradicted : DumpDisk → (came : Streams) → (n sector : ℕ)
+    → (readings : List NotedReading) → Type 0
+StaysOrIsContradicted disk came n sector readings =
+    (q : ℕ) → q < length disk.dumps → (clock : Clock)
     → IsUsed (plan_of disk).clocks clock → (found : List Found)
     → AreReadings (header_at disk.format (track_at disk.format n))
     (sector_at disk.format (track_at disk.format n))
@@ -129,10 +111,11 @@ StaysOrIsContradicted disk came o n sector said = (q : ℕ) → q < length disk.
     → let strict = readings_in q clock (came n q).times (came n q).indexes
     (cells_in disk.format came n q clock) found in
     (good bad : ℕ) (first : Place) → verdict strict sector ≡ Good good bad first
-    → IsGoodTooOrContradicted strict (joined said.captures) sector
+    → IsGoodTooOrContradicted strict readings sector
 
 -- so it is with each sector, whatever the files are
 abbrev pub GoodStaysOrIsContradicted : Type 0
-GoodStaysOrIsContradicted = (disk : DumpDisk) (came : Streams) (o : DumpsRead) (n sector : ℕ)
-    (said : IsSaid disk came o n sector)
-    → StaysOrIsContradicted disk came o n sector said
+GoodStaysOrIsContradicted = (disk : DumpDisk) (came : Streams) (o : DumpsRead)
+    (n sector number : ℕ)
+    (said : IsSaid (plan_of disk) disk.format came (as_planned o) n sector number)
+    → StaysOrIsContradicted disk came n sector (joined said.captures)

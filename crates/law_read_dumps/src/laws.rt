@@ -1,9 +1,9 @@
 //! What dumps come to that are read together.
 
 ghost use Rattle.law_read_dumps.specs.Complete.{CompleteIsAll};
-ghost use Rattle.law_read_dumps.specs.Lines.{LinesAreKnown, OtherFilesAreSaid, PassedStreamsAreSaid};
-ghost use Rattle.law_read_dumps.specs.Lines.{ReportsHaveNoOtherLines, SectorsHaveTheirNumbers};
-ghost use Rattle.law_read_dumps.specs.Said.{AllOfDumpsIsOne, BesideStreamsAreOfFiles, DumpsAreOne, EachIsSaid};
+ghost use Rattle.law_read_dumps.specs.Lines.{EachIsSaid, LinesAreKnown, OtherFilesAreSaid};
+ghost use Rattle.law_read_dumps.specs.Lines.{PassedStreamsAreSaid, ReportsHaveNoOtherLines};
+ghost use Rattle.law_read_dumps.specs.Said.{AllOfDumpsIsOne, BesideStreamsAreOfFiles, DumpsAreOne};
 ghost use Rattle.law_read_dumps.specs.Said.{GoodStaysOrIsContradicted, SaidIsRight, StreamsAreOfFiles};
 
 use flux_engine::{plans_are_right, rules_are_read};
@@ -29,10 +29,12 @@ pub fn all_of_dumps_is_one()
 
 /// Each sector of a disk that is read of its dumps has its line in the report, with the verdict over all that was read
 /// of its track, of all dumps and by both clocks, and at its place in the image the bytes that its good readings hold,
-/// or zeros. So it is called good, or contradictory, only where the dump, the clock and the place that are named hold
-/// it. And a sector that one dump's stream makes good by the strict rule and one clock, as `decode` reads it, is good
-/// with the same bytes, or contradictory. All of this is said of the streams that came; where the shelf tells its
-/// files, each stream, of a track of the format or of one beside it, is what its file says, or its file failed.
+/// or zeros. The line stands at the sector's number: behind those of all tracks before its own, of the streams of its
+/// track that are passed over, and of the track's sectors of smaller numbers. So the sector is called good, or
+/// contradictory, only where the dump, the clock and the place that are named hold it. And a sector that one dump's
+/// stream makes good by the strict rule and one clock, as `decode` reads it, is good with the same bytes, or
+/// contradictory. All of this is said of the streams that came; where the shelf tells its files, each stream, of a
+/// track of the format or of one beside it, is what its file says, or its file failed.
 pub fn dumps_say_each_sector()
     ensures said { EachIsSaid }
     ensures right { SaidIsRight }
@@ -47,14 +49,11 @@ pub fn dumps_say_each_sector()
     rules_are_read()
 }
 
-/// In the report each sector's line stands at its number: behind those of all tracks before its own, of the streams
-/// of its track that are passed over, and of the track's sectors of smaller numbers. Each stream that is passed over
-/// has its line too, and so has each file of a track beside the format's that is. Each line is a sector's at its
-/// number, such a stream's or file's, that of a name of a track's others that has whole data, one that tells of data
-/// after a name that is not told or of names without data, or one of the two at the end; and there are as many lines
-/// as the numbers of the report say.
+/// In the report each stream that is passed over has its line, as each sector has, and so has each file of a track
+/// beside the format's that is. Each line is a sector's at its number, such a stream's or file's, that of a name of a
+/// track's others that has whole data, one that tells of data after a name that is not told or of names without data,
+/// or one of the two at the end; and there are as many lines as the numbers of the report say.
 pub fn dump_reports_have_lines()
-    ensures numbered { SectorsHaveTheirNumbers }
     ensures passed { PassedStreamsAreSaid }
     ensures passed_beside { OtherFilesAreSaid }
     ensures known { LinesAreKnown }

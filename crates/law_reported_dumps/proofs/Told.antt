@@ -11,7 +11,8 @@ use Rattle.flux_engine.specs.Recordings.{track_at}
 use Rattle.flux_engine.specs.lemmas.TrackAt.{is_known_at}
 use Rattle.law_captured_disks.specs.Headline.{IsSectorOf}
 use Rattle.law_read_dumps.specs.Lines.{IsLineOfReport, IsPassedLine, IsSectorLine, IsTrackLine, LinesAreKnown, LookedAt, format_tracks, line_number, other_tracks}
-use Rattle.law_read_dumps.specs.Said.{IsSaid, StreamsAreOfFiles, came_in}
+use Rattle.law_captured_plans.specs.Said.{IsSaid, IsToldBy}
+use Rattle.law_read_dumps.specs.Said.{StreamsAreOfFiles, as_planned, came_in}
 use Rattle.sector_images.specs.Places.{tracks}
 use Rattle.sector_report.specs.DumpLines.{PassedLineFits, PassedLinesTell, passed_text}
 use Rattle.sector_report.specs.LineLaws.{LineFits, SectorLinesTell, TotalsAreNoSectors}
@@ -23,7 +24,7 @@ use Rattle.track_shelf.specs.Files.{File}
 use Rattle.turn_merge.specs.Others.{others_over}
 use Rattle.turn_merge.specs.Readings.{NotedReading, verdict}
 use Rattle.turn_merge.specs.declared.verdict.Verdict.{Verdict}
-use Rattle.law_reported_dumps.specs.Told.{IsPassedTold, IsTold, LinesTell, NoSectorIsToldTwice, PassedLinesAreTold}
+use Rattle.law_reported_dumps.specs.Told.{IsPassedTold, LinesTell, NoSectorIsToldTwice, PassedLinesAreTold}
 use Rattle.law_reported_dumps.proofs.Bounds.{line_fits, short_came, Laws as BoundLaws}
 use Rattle.law_reported_dumps.proofs.BesideTracks.{IsSmall, beside_small}
 use Rattle.law_reported_dumps.proofs.OtherLines.{absent_same, end_no_passed, end_no_sector, failed_is_failed, missing_is_missing, other_no_passed, other_no_sector, passed_no_sector, sector_no_passed, total_no_passed, traces_no_passed, traces_no_sector, unread_no_passed, unread_no_sector, untold_no_passed, untold_no_sector}
@@ -44,18 +45,22 @@ module _ (laws : Laws) (disk : DumpDisk) (files : List File) (o : DumpsRead) (is
   abbrev came : Streams
   came = came_in is
 
+  abbrev SectorTold : TrackId → (sector : ℕ) → Verdict → (number : ℕ) → Type 0
+  SectorTold track sector outcome number =
+      IsToldBy (plan_of disk) disk.format came (as_planned o) (line_number disk came is.others) track sector outcome number
+
   -- the line of a sector
   module _ (most : length disk.dumps ≤ 16) (track : TrackId) (sector : ℕ) (outcome : Verdict) (number : ℕ) (fits : LineFits ByCaptureAndClock track sector outcome) where
-    of_sector : IsSectorLine disk came o is.others number (named_text ByCaptureAndClock track sector outcome) → IsTold disk came o is.others track sector outcome number
+    of_sector : IsSectorLine disk came o is.others number (named_text ByCaptureAndClock track sector outcome) → SectorTold track sector outcome number
     of_sector s =
         let mine : Verdict = verdict (joined s.said.captures) s.sector in
         let fits_there : LineFits ByCaptureAndClock (track_at disk.format s.n) s.sector mine =
         line_fits laws.bounds disk came most s.n (short_came laws.bounds disk came files (laws.of_files disk files o is) s.n s.one.track) s.said.captures s.said.many s.said.each
         s.sector s.one.track s.one.known in
         let told = laws.tell ByCaptureAndClock track (track_at disk.format s.n) sector s.sector outcome mine fits fits_there s.line_is in
-        (subst (λ (k : ℕ). (one : IsSectorOf disk.format s.n k) (said : IsSaid disk came o s.n k) → verdict (joined said.captures) k ≡ outcome
-        → number ≡ line_number disk came is.others s.n k → IsTold disk came o is.others track sector outcome number) told.1
-        (λ one said verdict_is number_is. record { n = s.n; track_is = told.0; one = one; said = said; is = verdict_is; number_is = number_is }))
+        (subst (λ (k : ℕ). (one : IsSectorOf disk.format s.n k) (said : IsSaid (plan_of disk) disk.format came (as_planned o) s.n k (line_number disk came is.others s.n k)) → verdict (joined said.captures) k ≡ outcome
+        → number ≡ line_number disk came is.others s.n k → SectorTold track sector outcome number) told.1
+        (λ one said verdict_is number_is. record { n = s.n; track_is = told.0; low = one.track; known = one.known; said = said; is = verdict_is; number_is = number_is }))
         s.one s.said (sym told.2) s.number_is
 
     -- a line of a track beside those of its sectors is none
@@ -67,14 +72,14 @@ module _ (laws : Laws) (disk : DumpDisk) (files : List File) (o : DumpsRead) (is
         traces_no_sector (at.track_of traces.n) (trace_count (others_over (get_or at.others traces.n []))) ByCaptureAndClock track sector outcome fits traces.line_is
 
     told_by : IsLineOfReport disk came o is.others (other_tracks is) number (named_text ByCaptureAndClock track sector outcome)
-        → IsTold disk came o is.others track sector outcome number
+        → SectorTold track sector outcome number
     told_by (inl s) = of_sector s
     told_by (inr (inl line)) = absurd (not_of_track (format_tracks is) line)
     told_by (inr (inr (inl line))) = absurd (not_of_track (other_tracks is) line)
     told_by (inr (inr (inr (inl unread)))) = absurd (unread_no_sector o.totals.unread o.totals.others o.totals.whole ByCaptureAndClock track sector outcome fits unread)
     told_by (inr (inr (inr (inr total)))) = absurd (laws.no_total ByCaptureAndClock o.totals.sectors track sector outcome fits total)
 
-    told : HasLine o.notes (named_text ByCaptureAndClock track sector outcome) number → IsTold disk came o is.others track sector outcome number
+    told : HasLine o.notes (named_text ByCaptureAndClock track sector outcome) number → SectorTold track sector outcome number
     told h =
         elim (laws.known disk (Some files) o is number (named_text ByCaptureAndClock track sector outcome) h) [
           | inl line ↦ told_by line
@@ -83,9 +88,9 @@ module _ (laws : Laws) (disk : DumpDisk) (files : List File) (o : DumpsRead) (is
 
   -- two lines of one sector are one
   module _ (track : TrackId) (sector : ℕ) (outcome other : Verdict) (number another : ℕ)
-      (first : IsTold disk came o is.others track sector outcome number) (second : IsTold disk came o is.others track sector other another) where
+      (first : SectorTold track sector outcome number) (second : SectorTold track sector other another) where
     same_track : first.n ≡ second.n
-    same_track = one_number laws.tracks disk.format first.n second.n first.one.track second.one.track (sym first.track_is ∙ second.track_is)
+    same_track = one_number laws.tracks disk.format first.n second.n first.low second.low (sym first.track_is ∙ second.track_is)
 
     same_readings : first.said.captures ≡ second.said.captures
     same_readings =

@@ -1,14 +1,12 @@
 -- What the lines of a report of dumps tell: which of them are those of sectors, and which are those
 -- of streams that were passed over.
 use Rattle.std.specs.Prelude.{◌≡◌, ◌≤◌, ◌<◌, ◌⊎◌, ℕ, List, length, Some}
-use Rattle.dump_reading.specs.Outcomes.{DumpDisk, DumpsRead, IsDumpsRead}
+use Rattle.dump_reading.specs.Outcomes.{DumpDisk, DumpsRead, IsDumpsRead, plan_of}
 use Rattle.flux_base.specs.declared.track.TrackId.{TrackId}
 use Rattle.flux_engine.specs.DiskLaws.{HasLine}
-use Rattle.flux_engine.specs.Plans.{Streams, joined}
-use Rattle.flux_engine.specs.Recordings.{track_at}
-use Rattle.law_captured_disks.specs.Headline.{IsSectorOf}
+use Rattle.law_captured_plans.specs.Said.{AreToldBy}
 use Rattle.law_read_dumps.specs.Lines.{LookedAt, format_tracks, line_number, other_tracks}
-use Rattle.law_read_dumps.specs.Said.{IsSaid, came_in}
+use Rattle.law_read_dumps.specs.Said.{as_planned, came_in}
 use Rattle.sector_report.specs.DumpLines.{PassedLineFits, passed_text}
 use Rattle.sector_report.specs.LineLaws.{LineFits}
 use Rattle.sector_report.specs.Lines.{named_text}
@@ -16,36 +14,16 @@ use Rattle.sector_report.specs.declared.dump_lines.Passed.{Passed}
 use Rattle.sector_report.specs.declared.dump_lines.Passed.TheVariants.{Absent, Failed}
 use Rattle.sector_report.specs.declared.naming.Naming.TheVariants.{ByCaptureAndClock}
 use Rattle.track_shelf.specs.Files.{File}
-use Rattle.turn_merge.specs.Others.{NotedOther}
-use Rattle.turn_merge.specs.Readings.{verdict}
 use Rattle.turn_merge.specs.declared.verdict.Verdict.{Verdict}
 
--- The line is that of this sector of the disk and stands at its number, and the
--- verdict, with the dumps, the clocks and the places that it names, is the one over all
--- readings of the sector's track.
-pub record IsTold (disk : DumpDisk) (came : Streams) (o : DumpsRead)
-    (others : List (List NotedOther)) (track : TrackId) (sector : ℕ) (outcome : Verdict)
-    (number : ℕ) : Type 0 where
-  pub n : ℕ
-  pub track_is : track ≡ track_at disk.format n
-  pub one : IsSectorOf disk.format n sector
-  pub said : IsSaid disk came o n sector
-  pub is : verdict (joined said.captures) sector ≡ outcome
-  pub number_is : number ≡ line_number disk came others n sector
-
--- so it is with each line of a report that has the text of a sector's line, of
--- whatever numbers that fit in it
-abbrev pub AreTold : DumpDisk → Streams → DumpsRead → (others : List (List NotedOther)) → Type 0
-AreTold disk came o others = (track : TrackId) (sector : ℕ) (outcome : Verdict) (number : ℕ)
-    → LineFits ByCaptureAndClock track sector outcome
-    → HasLine o.notes (named_text ByCaptureAndClock track sector outcome) number
-    → IsTold disk came o others track sector outcome number
-
+-- each line of a report that has the text of a sector's line is told, as by the dumps' plan, with
+-- the dumps, the clocks and the places that it names
 abbrev pub LinesTell : Type 0
 LinesTell =
     (disk : DumpDisk) (files : List File) (o : DumpsRead) (is : IsDumpsRead disk (Some files) o)
     → length disk.dumps ≤ 16
-    → AreTold disk (came_in is) o is.others
+    → AreToldBy (plan_of disk) disk.format (came_in is) (as_planned o)
+    (line_number disk (came_in is) is.others)
 
 -- a report tells no sector twice: two lines that have the texts of lines of one sector
 -- are one line, with one verdict

@@ -1,4 +1,4 @@
-use Rattle.law_read_dumps.proofs.Reports.{Laws, lines_are_known, other_files_are_said, passed_streams_are_said, reports_have_no_other_lines, sectors_have_their_numbers}
+use Rattle.law_read_dumps.proofs.Reports.{Laws, lines_are_known, other_files_are_said, passed_streams_are_said, reports_have_no_other_lines}
 use Rattle.law_read_dumps.proofs.laws.dump_reports_have_lines.Goals as goal
 
 laws : (c : goal.After-rules_are_read) → Laws
@@ -12,9 +12,6 @@ laws c = record {
   readings = c.plans_are_right.ensures.readings;
   said = c.dumps_say_each_sector.ensures.said;
 }
-
-pub returns-clause-numbered : goal.returns-clause-numbered
-returns-clause-numbered c = sectors_have_their_numbers (laws c)
 
 pub returns-clause-passed : goal.returns-clause-passed
 returns-clause-passed c = passed_streams_are_said (laws c)
