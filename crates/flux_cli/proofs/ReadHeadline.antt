@@ -8,8 +8,8 @@ use Rattle.flux_base.specs.declared.status.Status.{Status}
 use Rattle.flux_base.specs.declared.status.Status.TheVariants.{AllGood, NotAllGood, Refused, Usage, ReadFault, ImageFault, NotesFault, Memory, ShelfFault}
 use Rattle.law_captured_dumps.specs.Headline.{CapturedDumpsAreNeverWrong, SteadyDumpsAreReadWell}
 use Rattle.law_read_dumps.specs.Complete.{CompleteIsAll}
-use Rattle.law_read_dumps.specs.Lines.{OtherFilesAreSaid, PassedStreamsAreSaid, ReportsHaveNoOtherLines, SectorsHaveTheirNumbers}
-use Rattle.law_read_dumps.specs.Said.{BesideStreamsAreOfFiles, EachIsSaid, GoodStaysOrIsContradicted, SaidIsRight, StreamsAreOfFiles, came_in}
+use Rattle.law_read_dumps.specs.Lines.{EachIsSaid, OtherFilesAreSaid, PassedStreamsAreSaid, ReportsHaveNoOtherLines}
+use Rattle.law_read_dumps.specs.Said.{BesideStreamsAreOfFiles, GoodStaysOrIsContradicted, SaidIsRight, StreamsAreOfFiles, came_in}
 use Rattle.law_reported_dumps.specs.Told.{LinesTell, NoSectorIsToldTwice, PassedLinesAreTold}
 use Rattle.flux_cli.specs.EmptyText.{empty_text}
 use Rattle.track_shelf.specs.Files.{File}
@@ -35,7 +35,6 @@ pub record DumpLaws : Type 0 where
   pub of_files : StreamsAreOfFiles
   pub of_files_beside : BesideStreamsAreOfFiles
   pub right : SaidIsRight
-  pub numbered : SectorsHaveTheirNumbers
   pub told : LinesTell
   pub once : NoSectorIsToldTwice
   pub passed : PassedStreamsAreSaid
@@ -56,7 +55,6 @@ of_dumps laws disk files few d read = record {
   of_files_beside = laws.of_files_beside disk files d read;
   said = laws.said disk (Some files) d read;
   right = laws.right disk (came_in read) d;
-  numbered = laws.numbered disk (Some files) d read;
   told = laws.told disk files d read few;
   once = laws.once disk files d read few;
   passed = laws.passed disk (Some files) d read;

@@ -86,7 +86,8 @@ pub record OfStreams (plan : Plan) (output : Output) (format : Format) (x : List
   pub captured : (image : List ℕ) → IsImage format image
       → (set : IsCapturedSet format plan.captures image x)
       → (IsUsed plan.clocks Held → IsSteadySet format plan.captures image x set)
-      → (o.status ≡ AllGood) × IsOfPlanned output format (IsReadWhole plan.naming format image) o
+      → (o.status ≡ AllGood)
+      × IsOfPlanned output format (IsReadWhole plan format image (streams_in plan x)) o
   -- Whatever speed they have: each sector good with its own bytes, or contradictory.
   pub never_wrong : (image : List ℕ) → IsImage format image
       → IsCapturedSet format plan.captures image x
@@ -96,7 +97,8 @@ pub record OfStreams (plan : Plan) (output : Output) (format : Format) (x : List
   pub erased : (image : List ℕ) → IsImage format image
       → (set : IsErasedSet format plan.captures image x)
       → (IsUsed plan.clocks Held → IsSteadyErasedSet format plan.captures image x set)
-      → WasRead o.status × IsOfPlanned output format (λ d. IsReadInPart plan.naming format image d (LiesInACapture format plan.captures image x set)) o
+      → WasRead o.status × IsOfPlanned output format (λ d. IsReadInPart plan format image
+      (streams_in plan x) d (LiesInACapture format plan.captures image x set)) o
   -- No sector stands in cells of two pieces.
   pub one_piece : (image : List ℕ) → IsImage format image
       → (set : IsErasedSet format plan.captures image x)

@@ -3,6 +3,7 @@
 use Rattle.std.specs.Prelude.{◌≡◌, ◌<◌, ◌↔◌, IsTrue, ℕ, List, [], ◌++◌, get_or, length, Some}
 use Rattle.disk_map.specs.Dumps.{IsDumpsDrawn, ShowsReport}
 use Rattle.dump_reading.specs.Outcomes.{DumpDisk, DumpsRead, FilesFailed, IsDumpsRead, IsFirstEmpty}
+use Rattle.dump_reading.specs.Outcomes.{plan_of}
 use Rattle.dump_reading.specs.Totals.{is_complete}
 use Rattle.flux_base.specs.Outside.{Rose}
 use Rattle.flux_base.specs.declared.status.Status.{Status}
@@ -12,14 +13,15 @@ use Rattle.flux_base.specs.declared.status.Status.TheVariants.{Memory, ShelfFaul
 use Rattle.flux_engine.specs.Plans.{joined}
 use Rattle.flux_engine.specs.Rings.{IsImage}
 use Rattle.law_captured_disks.specs.Headline.{IsSectorOf}
-use Rattle.law_captured_dumps.specs.Headline.{IsReadRightly, IsReadWell}
 use Rattle.law_captured_dumps.specs.Inputs.{HasFailed, HasWhole, IsSteadyOrPassed}
+use Rattle.law_captured_plans.specs.Headline.{IsReadRightly, IsReadWell}
+use Rattle.law_captured_plans.specs.Said.{AreToldBy, IsSaid}
 use Rattle.law_read_dumps.specs.Complete.{IsAllRead}
-use Rattle.law_read_dumps.specs.Lines.{ArePassedSaid, HasNoOtherLines, HaveTheirNumbers}
-use Rattle.law_read_dumps.specs.Lines.{format_tracks, other_tracks}
-use Rattle.law_read_dumps.specs.Said.{AreBesideOfFiles, AreOfFiles, IsSaid, IsSaidRightly}
-use Rattle.law_read_dumps.specs.Said.{StaysOrIsContradicted, came_in}
-use Rattle.law_reported_dumps.specs.Told.{ArePassedTold, AreTold, TellsOnce}
+use Rattle.law_read_dumps.specs.Lines.{ArePassedSaid, AreSaid, HasNoOtherLines}
+use Rattle.law_read_dumps.specs.Lines.{format_tracks, line_number, other_tracks}
+use Rattle.law_read_dumps.specs.Said.{AreBesideOfFiles, AreOfFiles, IsSaidRightly}
+use Rattle.law_read_dumps.specs.Said.{StaysOrIsContradicted, as_planned, came_in}
+use Rattle.law_reported_dumps.specs.Told.{ArePassedTold, TellsOnce}
 use Rattle.track_shelf.specs.DumpKinds.{kind_in}
 use Rattle.flux_cli.specs.EmptyText.{empty_text}
 use Rattle.track_shelf.specs.Files.{File}
@@ -35,25 +37,26 @@ use Rattle.flux_cli.specs.World.{OnShelf, now_at}
 use Rattle.flux_words.specs.declared.options.Shown.{Shown}
 use Rattle.flux_words.specs.declared.options.Shown.TheVariants.{Image, Picture}
 
--- Each sector's line and its bytes in the image are those that all readings of the dumps bear out.
--- Each line of the report that has the text of a sector's line is that one, at its number, and no
--- sector is told twice. Each stream that is passed over is told, of a track of the format or of any
--- other, and each line that has the text of such a stream's is true; there are as many lines as the
--- numbers say. The numbers call all of it complete exactly where every sector is good and, in the
--- cells of no stream of any track, whole data stand after a header that names none of its track's
--- sectors. A sector that is good by the strict rule in one dump, by one clock, is never wrong
--- unsaid, whatever the files are: it is good with the same bytes, or contradictory. So is one that
--- a dump has whole, in a file that did not fail, with its own bytes; where the other files are
--- captures too or passed over, and the drives kept their speed, it is good with them.
+-- Each sector's line, at its number, and its bytes in the image are those that all readings of the
+-- dumps bear out. Each line of the report that has the text of a sector's line is that one, at its
+-- number, and no sector is told twice. Each stream that is passed over is told, of a track of the
+-- format or of any other, and each line that has the text of such a stream's is true; there are as
+-- many lines as the numbers say. The numbers call all of it complete exactly where every sector is
+-- good and, in the cells of no stream of any track, whole data stand after a header that names none
+-- of its track's sectors. A sector that is good by the strict rule in one dump, by one clock, is
+-- never wrong unsaid, whatever the files are: it is good with the same bytes, or contradictory. So
+-- is one that a dump has whole, in a file that did not fail, with its own bytes; where the other
+-- files are captures too or passed over, and the drives kept their speed, it is good with them.
 pub record OfDumps (disk : DumpDisk) (files : List File) (d : DumpsRead) : Type 0 where
   pub is : IsDumpsRead disk (Some files) d
   pub of_files : AreOfFiles disk (came_in is) files
   pub of_files_beside : AreBesideOfFiles is.beside files
-  pub said : (n sector : ℕ) → IsSectorOf disk.format n sector → IsSaid disk (came_in is) d n sector
-  pub right : (n sector : ℕ) (said : IsSaid disk (came_in is) d n sector)
+  pub said : AreSaid disk (came_in is) d is.others
+  pub right : (n sector number : ℕ)
+      (said : IsSaid (plan_of disk) disk.format (came_in is) (as_planned d) n sector number)
       → IsSaidRightly disk (came_in is) d n sector (verdict (joined said.captures) sector)
-  pub numbered : HaveTheirNumbers disk (came_in is) d is.others
-  pub told : AreTold disk (came_in is) d is.others
+  pub told : AreToldBy (plan_of disk) disk.format (came_in is) (as_planned d)
+      (line_number disk (came_in is) is.others)
   pub once : TellsOnce d.notes
   pub passed : ArePassedSaid disk (format_tracks is) d
   pub passed_beside : ArePassedSaid disk (other_tracks is) d
@@ -61,20 +64,23 @@ pub record OfDumps (disk : DumpDisk) (files : List File) (d : DumpsRead) : Type 
   pub count : HasNoOtherLines d (is.others ++ is.beside.others)
   pub complete : IsTrue (is_complete d.totals)
       ↔ IsAllRead disk (Some files) (came_in is) is.beside d
-  pub stays : (n sector : ℕ) (said : IsSaid disk (came_in is) d n sector)
-      → StaysOrIsContradicted disk (came_in is) d n sector said
+  pub stays : (n sector number : ℕ)
+      (said : IsSaid (plan_of disk) disk.format (came_in is) (as_planned d) n sector number)
+      → StaysOrIsContradicted disk (came_in is) n sector (joined said.captures)
   pub whole : (image : List ℕ) → IsImage disk.format image → (n sector : ℕ)
       → IsSectorOf disk.format n sector
       → (dump : ℕ) → dump < length disk.dumps → ¬ HasFailed (came_in is) n dump
       → HasWhole disk files image n dump sector
-      → IsReadRightly disk (came_in is) image d n sector
+      → IsReadRightly (plan_of disk) disk.format image (came_in is) (as_planned d) n sector
+      (line_number disk (came_in is) is.others n sector)
   pub steady : (image : List ℕ) → IsImage disk.format image → (n sector : ℕ)
       → IsSectorOf disk.format n sector
       → (dump : ℕ) → dump < length disk.dumps → ¬ HasFailed (came_in is) n dump
       → HasWhole disk files image n dump sector
       → ((other : ℕ) → other < length disk.dumps
       → IsSteadyOrPassed disk (came_in is) files image n other)
-      → IsReadWell disk (came_in is) image d n sector
+      → IsReadWell (plan_of disk) disk.format image (came_in is) (as_planned d) n sector
+      (line_number disk (came_in is) is.others n sector)
 
 -- The sinks got the image and the report of the dumps. All that the shelf did is that those files
 -- failed that the report tells so, in their order, and none is open that was not.

@@ -47,7 +47,6 @@ returns-clause-promises g c =
         of_files = said.of_files;
         of_files_beside = said.beside_of_files;
         right = said.right;
-        numbered = lines.numbered;
         told = told.told;
         once = told.once;
         passed = lines.passed;
