@@ -19,12 +19,13 @@ use Rattle.flux_engine.specs.Answers.{IsTakenBehind}
 use Rattle.flux_engine.specs.Disks.{images, report_over, totals_over}
 use Rattle.flux_engine.specs.PlanAnswers.{DecodesPlanned, most_of_track}
 use Rattle.flux_engine.specs.PlanProgress.{EndedInStream, EndsInTracks, HasPlanned, StoppedAt}
-use Rattle.flux_engine.specs.Plans.{IsFirstFault, PartOf, PlanStop, streams_in}
+use Rattle.flux_engine.specs.Plans.{IsFirstFault, PartOf, streams_in}
 use Rattle.flux_engine.specs.Room.{RoomState}
 use Rattle.flux_engine.specs.Streams.{behind}
 use Rattle.flux_engine.specs.Tracks.{TrackPart}
-use Rattle.flux_engine.specs.declared.fault.PlanFault.{PlanFault}
-use Rattle.flux_engine.specs.declared.fault.PlanFault.TheVariants.{ReadFault, ImageFault, NotesFault, Refused}
+use Rattle.flux_engine.specs.declared.fault.RefusedCapture.{RefusedCapture}
+use Rattle.flux_engine.specs.declared.fault.Stopped.{Stopped}
+use Rattle.flux_engine.specs.declared.fault.Stopped.TheVariants.{ReadFault, ImageFault, NotesFault, Refused}
 use Rattle.flux_engine.specs.declared.plan.Plan.{Plan}
 use Rattle.flux_engine.specs.lemmas.PartLaws.{images-more}
 use Rattle.flux_engine.specs.lemmas.PlanStops.{stops_here, stops_nowhere}
@@ -133,9 +134,9 @@ module _ (plan : Plan) (some : 1 ≤ plan.captures) (format : Format) (left left
       ended = λ cannot. absurd cannot;
     }
 
-  module _ (notes notes' : Option (List ℕ)) (written : Option (List ℕ)) (totals : Totals) (fault : PlanFault)
+  module _ (notes notes' : Option (List ℕ)) (written : Option (List ℕ)) (totals : Totals) (fault : Stopped RefusedCapture)
       (e : EndedInStream plan drawn format left left' top written notes notes' totals (Err fault)) where
-    abbrev stop_at : (q block : ℕ) → StreamFault → PlanStop
+    abbrev stop_at : (q block : ℕ) → StreamFault → RefusedCapture
     stop_at q block at = record { track = e.number; capture = q; block = block; fault = at }
 
     first : (later : List ℕ) (q block : ℕ) (at : StreamFault) → StoppedAt plan e.number (e.taken ++ later) later q block at
@@ -161,7 +162,7 @@ module _ (plan : Plan) (some : 1 ≤ plan.captures) (format : Format) (left left
     consumed = e.stopped.consumed;
     says = λ (later : List ℕ) only.
         let s = e.stopped.says later only in
-        let stop : PlanStop = stop_at notes notes' written totals ReadFault e s.0 s.1 Truncated in
+        let stop : RefusedCapture = stop_at notes notes' written totals ReadFault e s.0 s.1 Truncated in
         record {
           drawn = report_over e.parts (Some stop);
           is = planned notes notes' written totals ReadFault e later s.0 s.1 Truncated s.2;
@@ -173,28 +174,28 @@ module _ (plan : Plan) (some : 1 ≤ plan.captures) (format : Format) (left left
     ended = λ cannot. absurd cannot;
   }
 
-  module _ (notes notes' written : Option (List ℕ)) (totals : Totals) (track capture block : ℕ) (fault : StreamFault)
-      (e : EndedInStream plan drawn format left left' top written notes notes' totals (Err (Refused track capture block fault))) where
-    abbrev stop_there : PlanStop
-    stop_there = stop_at notes notes' written totals (Refused track capture block fault) e capture block fault
+  module _ (notes notes' written : Option (List ℕ)) (totals : Totals) (stop : RefusedCapture)
+      (e : EndedInStream plan drawn format left left' top written notes notes' totals (Err (Refused stop))) where
+    abbrev stop_there : RefusedCapture
+    stop_there = stop_at notes notes' written totals (Refused stop) e stop.capture stop.block stop.fault
 
     abbrev foot_there : List ℕ
     foot_there = foot_of format (totals_over e.parts) (Some stop_there)
 
-    foot_same : track ≡ e.number → foot_text (layout_of format) totals (refused_text track block fault) ≡ foot_there
-    foot_same here = foot_is notes notes' written totals (Refused track capture block fault) e track capture block fault here
+    foot_same : stop.track ≡ e.number → foot_text (layout_of format) totals (refused_text stop.track stop.block stop.fault) ≡ foot_there
+    foot_same here = foot_is notes notes' written totals (Refused stop) e stop.track stop.capture stop.block stop.fault here
 
-    mapped_refused : Appends written picture' (foot_text (layout_of format) totals (refused_text track block fault))
-        → MapsDisk plan format left left' picture picture' (Err (Refused track capture block fault))
+    mapped_refused : Appends written picture' (foot_text (layout_of format) totals (refused_text stop.track stop.block stop.fault))
+        → MapsDisk plan format left left' picture picture' (Err (Refused stop))
     mapped_refused foot = record {
       taken = e.taken;
       consumed = e.stopped.consumed;
       says = λ (later : List ℕ) only.
           let s = e.stopped.says later only in
-          subst (λ (t : ℕ). SaysOfMap plan format (e.taken ++ later) later picture picture' (Err (Refused t capture block fault))) (sym s.0) (
+          subst (λ (t : ℕ). SaysOfMap plan format (e.taken ++ later) later picture picture' (Err (Refused (record stop { track = t })))) (sym s.0) (
             report_over e.parts (Some stop_there),
             record {
-              drawn = planned notes notes' written totals (Refused track capture block fault) e later capture block fault s.1;
+              drawn = planned notes notes' written totals (Refused stop) e later stop.capture stop.block stop.fault s.1;
               grew = Appends-trans picture written picture' (front_of format e.parts) foot_there
                   (front e.parts written e.image_grew) (subst (Appends written picture') (foot_same s.0) foot);
             },
@@ -204,7 +205,7 @@ module _ (plan : Plan) (some : 1 ≤ plan.captures) (format : Format) (left left
       ended = e.stopped.ended;
     }
 
-    mapped_cut_refusal : AppendsPart written picture' (foot_text (layout_of format) totals (refused_text track block fault))
+    mapped_cut_refusal : AppendsPart written picture' (foot_text (layout_of format) totals (refused_text stop.track stop.block stop.fault))
         → MapsDisk plan format left left' picture picture' (Err ImageFault)
     mapped_cut_refusal foot = record {
       taken = e.taken;
@@ -217,12 +218,12 @@ module _ (plan : Plan) (some : 1 ≤ plan.captures) (format : Format) (left left
             each = e.each later;
             many = omega (arith, e.low, e.many);
             ending = foot_there;
-            ends = inr (Some stop_there, first notes notes' written totals (Refused track capture block fault) e later capture block fault s.1, e.many, refl);
+            ends = inr (Some stop_there, first notes notes' written totals (Refused stop) e later stop.capture stop.block stop.fault s.1, e.many, refl);
             grew = AppendsPart-second picture written picture' (front_of format e.parts) foot_there
                 (front e.parts written e.image_grew) (subst (AppendsPart written picture') (foot_same s.0) foot);
-            before = e.number * plan.captures + capture;
+            before = e.number * plan.captures + stop.capture;
             close = (omega (arith, all), omega (arith, all, s.1.low));
-            taken = wider (e.taken ++ later) later (e.number * plan.captures + capture) 4198416 (omega (arith, some)) s.1.taken;
+            taken = wider (e.taken ++ later) later (e.number * plan.captures + stop.capture) 4198416 (omega (arith, some)) s.1.taken;
           };
       ended = λ cannot. absurd cannot;
     }
@@ -240,34 +241,34 @@ module _ (plan : Plan) (some : 1 ≤ plan.captures) (format : Format) (left left
         ap (λ (n : ℕ). n * plan.captures) many ∙ add-mul (length s.parts) 1 plan.captures in
         record {
           drawn = s.parts ++ s.next ∷ [];
-          each = s.each;
-          many = omega (arith, s.many, many);
+          each = s.are.0;
+          many = omega (arith, s.few, many);
           ending = [];
           ends = inl refl;
           grew = subst (λ (q : Option (List ℕ)). AppendsPart picture q (front_of format (s.parts ++ s.next ∷ []) ++ [])) (sym same)
-              (cut_track picture top written (top_text format) s.parts s.next s.image_grew.0 s.image_grew.1 begun s.image_grew.2);
+              (cut_track picture top written (top_text format) s.parts s.next s.wrote.0.0 s.wrote.0.1 begun s.wrote.0.2);
           before = length s.parts * plan.captures;
           close = (omega (arith, all), omega (arith, all, some));
-          taken = s.taken;
+          taken = s.are.1;
         };
     ended = λ cannot. absurd cannot;
   }
 
 pub mapped_fault : (plan : Plan) (some : 1 ≤ plan.captures) (format : Format) (left left' picture top notes notes' : Option (List ℕ)) (totals : Totals) → Appends picture top (top_text format)
-    → {P : Type 0} (before after : Moment P) (fault answer : PlanFault)
+    → {P : Type 0} (before after : Moment P) (fault answer : Stopped RefusedCapture)
     → EndsInTracks plan (drawn_by plan.naming) format left left' top before.bytes notes notes' totals (Err fault)
     → ¬ (fault ≡ NotesFault) → EndsEarly format totals before after fault answer → MapsDisk plan format left left' picture after.bytes (Err answer)
 mapped_fault plan some format left left' picture top notes notes' totals begun {P = P} before after ReadFault answer d only e =
-    subst (λ (a : PlanFault). MapsDisk plan format left left' picture after.bytes (Err a)) (sym e.0)
+    subst (λ (a : Stopped RefusedCapture). MapsDisk plan format left left' picture after.bytes (Err a)) (sym e.0)
     (mapped_unread plan some format left left' picture top after.bytes begun notes notes' before.bytes totals d (ap (λ (m : Moment P). m.bytes) e.1))
 mapped_fault plan some format left left' picture top notes notes' totals begun {P = P} before after ImageFault answer d only e =
-    subst (λ (a : PlanFault). MapsDisk plan format left left' picture after.bytes (Err a)) (sym e.0)
+    subst (λ (a : Stopped RefusedCapture). MapsDisk plan format left left' picture after.bytes (Err a)) (sym e.0)
     (mapped_cut_field plan some format left left' picture top after.bytes begun notes notes' before.bytes d (ap (λ (m : Moment P). m.bytes) e.1))
 mapped_fault plan some format left left' picture top notes notes' totals begun before after NotesFault answer d only e = absurd (only refl)
-mapped_fault plan some format left left' picture top notes notes' totals begun before after (Refused track capture block fault) ReadFault d only e = absurd e
-mapped_fault plan some format left left' picture top notes notes' totals begun before after (Refused track capture block fault) NotesFault d only e = absurd e
-mapped_fault plan some format left left' picture top notes notes' totals begun before after (Refused track capture block fault) ImageFault d only e =
-    mapped_cut_refusal plan some format left left' picture top after.bytes begun notes notes' before.bytes totals track capture block fault d e.1.err
-mapped_fault plan some format left left' picture top notes notes' totals begun before after (Refused track capture block fault) (Refused track' capture' block' fault') d only e =
-    subst (λ (a : PlanFault). MapsDisk plan format left left' picture after.bytes (Err a)) e.0
-    (mapped_refused plan some format left left' picture top after.bytes begun notes notes' before.bytes totals track capture block fault d e.1.ok)
+mapped_fault plan some format left left' picture top notes notes' totals begun before after (Refused stop) ReadFault d only e = absurd e
+mapped_fault plan some format left left' picture top notes notes' totals begun before after (Refused stop) NotesFault d only e = absurd e
+mapped_fault plan some format left left' picture top notes notes' totals begun before after (Refused stop) ImageFault d only e =
+    mapped_cut_refusal plan some format left left' picture top after.bytes begun notes notes' before.bytes totals stop d e.1.err
+mapped_fault plan some format left left' picture top notes notes' totals begun before after (Refused stop) (Refused stop') d only e =
+    subst (λ (s : RefusedCapture). MapsDisk plan format left left' picture after.bytes (Err (Refused s))) e.0
+    (mapped_refused plan some format left left' picture top after.bytes begun notes notes' before.bytes totals stop d e.1.ok)

@@ -10,13 +10,15 @@ use Rattle.flux_base.specs.Blames.{CountsBy, no_counts, three_counts}
 use Rattle.flux_base.specs.Counts.{FaultCounts}
 use Rattle.flux_engine.specs.Disks.{images}
 use Rattle.flux_engine.specs.Tracks.{TrackPart}
-use Rattle.dump_reading.specs.Blamed.{dumps_blame}
+use Rattle.flux_engine.specs.Blamed.{sink_blame}
 use Rattle.dump_reading.specs.Beside.{no_lines}
 use Rattle.dump_reading.specs.DumpStreams.{of_disk}
 use Rattle.dump_reading.specs.Files.{ShelfNow}
-use Rattle.dump_reading.specs.Outcomes.{DumpDisk, HasTracksBy, StopsBy, WroteIntoImageBy, lines_of, numbers_of}
-use Rattle.dump_reading.specs.declared.fault.DumpsFault.{DumpsFault}
-use Rattle.dump_reading.specs.declared.fault.DumpsFault.TheVariants.{NoFiles, ImageFault, NotesFault}
+use Rattle.dump_reading.specs.Outcomes.{DumpDisk, DumpsCutInTrack, HasTracksBy, StopsBy, lines_of, numbers_of}
+use Rattle.dump_reading.specs.declared.fault.NoFiles.{NoFiles}
+use Rattle.flux_engine.specs.declared.fault.Stopped.{Stopped}
+use Rattle.flux_engine.specs.declared.fault.Stopped.TheVariants.{ReadFault, ImageFault, NotesFault, Refused}
+use Rattle.flux_engine.specs.declared.track_part.PartFault.TheVariants.{ImageFault as PartImageFault}
 use Rattle.dump_reading.specs.declared.totals.DumpTotals.{DumpTotals}
 use Rattle.dump_reading.specs.lemmas.Coming.{none_came}
 use Rattle.disk_map.specs.Dumps.{DrewDumps, SaysOfDrawing, StoppedInDumps, dumps_foot, dumps_front, dumps_part, picture_of}
@@ -82,25 +84,26 @@ module _ (disk : DumpDisk) (start : ShelfNow) (picture : Option (List ℕ)) wher
       }
 
     -- the sink failed at a field
-    cut-field : (written notes notes' : Option (List ℕ)) → WroteIntoImageBy dumps_part disk start now top written notes notes' → StoppedInDumps disk start now picture written
+    cut-field : (written notes notes' : Option (List ℕ)) → DumpsCutInTrack PartImageFault dumps_part disk start now top written notes notes' → StoppedInDumps disk start now picture written
     cut-field written notes notes' w =
         let many : length (w.parts ++ w.next ∷ []) ≡ length w.parts + 1 = length_push w.parts w.next in
         record {
-          streams = w.streams;
+          streams = w.are.streams;
           parts = w.parts ++ w.next ∷ [];
           few = omega (arith, w.few, many);
-          read = w.read;
+          read = w.are.read;
           beside = [];
           ending = [];
           ends = inl (refl, refl);
-          shelf = w.shelf;
-          grew = cut_track picture top written (top_by (codes "read") disk.format) w.parts w.next w.image_grew.0 w.image_grew.1 begun w.image_grew.2;
+          shelf = w.are.shelf;
+          grew = cut_track picture top written (top_by (codes "read") disk.format) w.parts w.next w.wrote.0.0 w.wrote.0.1 begun w.wrote.0.2;
         }
 
     -- reading the tracks stopped; there are no notes that could have failed
-    pub drawn-stopped : (written notes notes' : Option (List ℕ)) (fault : DumpsFault) (p p' : FaultCounts)
-        → CountsBy (dumps_blame {A = DumpTotals} (Err fault)) (three_counts no_counts p no_counts) (three_counts no_counts p' no_counts)
+    pub drawn-stopped : (written notes notes' : Option (List ℕ)) (fault : Stopped NoFiles) (p p' : FaultCounts)
+        → CountsBy (sink_blame {A = DumpTotals} (Err fault)) (three_counts no_counts p no_counts) (three_counts no_counts p' no_counts)
         → StopsBy dumps_part no_lines disk start now top written notes notes' fault → SaysOfDrawing disk start now picture written (Err fault)
-    drawn-stopped written notes notes' (NoFiles dump) p p' counts stops = absurd stops
+    drawn-stopped written notes notes' ReadFault p p' counts stops = absurd stops
+    drawn-stopped written notes notes' (Refused empty) p p' counts stops = absurd stops
     drawn-stopped written notes notes' ImageFault p p' counts stops = cut-field written notes notes' stops
     drawn-stopped written notes notes' NotesFault p p' counts stops = omega (arith, counts.notes.cause)

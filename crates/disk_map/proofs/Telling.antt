@@ -6,10 +6,11 @@ use Rattle.sector_images.specs.declared.format.Format.{Format}
 use Rattle.flux_engine.specs.Answers.{Stayed}
 use Rattle.flux_base.specs.Blames.{CountsBy, no_counts, three_counts}
 use Rattle.flux_base.specs.Counts.{FaultCounts}
-use Rattle.flux_engine.specs.Blamed.{plan_blame}
+use Rattle.flux_engine.specs.Blamed.{stop_blame}
 use Rattle.flux_engine.specs.PlanAnswers.{IsFinished, PlanAnswer}
-use Rattle.flux_engine.specs.declared.fault.PlanFault.{PlanFault}
-use Rattle.flux_engine.specs.declared.fault.PlanFault.TheVariants.{ReadFault, ImageFault, NotesFault, Refused}
+use Rattle.flux_engine.specs.declared.fault.RefusedCapture.{RefusedCapture}
+use Rattle.flux_engine.specs.declared.fault.Stopped.{Stopped}
+use Rattle.flux_engine.specs.declared.fault.Stopped.TheVariants.{ReadFault, ImageFault, NotesFault, Refused}
 use Rattle.flux_engine.specs.declared.plan.Plan.{Plan}
 use Rattle.flux_engine.specs.lemmas.ReadLaws.{Rest, rest_of, some_same}
 use Rattle.disk_map.specs.Answers.{IsOfDiskAtHand, MapsDisk, SaysOfMap, SaysOfMapInput}
@@ -31,9 +32,9 @@ module _ (plan : Plan) (format : Format) (x : List ℕ) (left left' picture pict
 
   pub says_of_input : (answer : PlanAnswer) → Maps answer → SaysOfMapInput plan format x left' picture picture' answer
   says_of_input (Ok totals) d = (let r = rest_is d.taken d.consumed in (r.rest, r.left, whole (Ok totals) d r (λ cannot. absurd cannot)))
-  says_of_input (Err (Refused track capture block fault)) d =
+  says_of_input (Err (Refused stop)) d =
       let r = rest_is d.taken d.consumed in
-      (r.rest, r.left, whole (Err (Refused track capture block fault)) d r (λ truncated. at_end x d.taken left' (d.ended truncated) r))
+      (r.rest, r.left, whole (Err (Refused stop)) d r (λ truncated. at_end x d.taken left' (d.ended truncated) r))
   says_of_input (Err ReadFault) d =
       let r = rest_is d.taken d.consumed in (
         d.taken,
@@ -48,17 +49,17 @@ module _ (plan : Plan) (format : Format) (x : List ℕ) (left left' picture pict
 
 -- no notes are written that could fail
 module _ {source source' picture picture' : FaultCounts} where
-  pub is_finished : (answer : PlanAnswer) → CountsBy (plan_blame answer) (three_counts source picture no_counts) (three_counts source' picture' no_counts)
+  pub is_finished : (answer : PlanAnswer) → CountsBy (stop_blame answer) (three_counts source picture no_counts) (three_counts source' picture' no_counts)
       → Stayed source.faults source'.faults → Stayed picture.faults picture'.faults → IsFinished answer
   is_finished (Ok totals) counts stayed drawn = tt
-  is_finished (Err (Refused track capture block fault)) counts stayed drawn = tt
+  is_finished (Err (Refused stop)) counts stayed drawn = tt
   is_finished (Err ReadFault) counts stayed drawn = omega (arith, counts.source.cause, stayed.0, stayed.1)
   is_finished (Err ImageFault) counts stayed drawn = omega (arith, counts.image.cause, drawn.0, drawn.1)
   is_finished (Err NotesFault) counts stayed drawn = omega (arith, counts.notes.cause)
 
-  pub no_notes_fault : (fault : PlanFault) → CountsBy (plan_blame {A = Unit {0}} (Err fault)) (three_counts source picture no_counts) (three_counts source' picture' no_counts)
+  pub no_notes_fault : (fault : Stopped RefusedCapture) → CountsBy (stop_blame {A = Unit {0}} (Err fault)) (three_counts source picture no_counts) (three_counts source' picture' no_counts)
       → ¬ (fault ≡ NotesFault)
   no_notes_fault NotesFault counts is = omega (arith, counts.notes.cause)
   no_notes_fault ReadFault counts is = absurd (cc)
   no_notes_fault ImageFault counts is = absurd (cc)
-  no_notes_fault (Refused track capture block fault) counts is = absurd (cc)
+  no_notes_fault (Refused stop) counts is = absurd (cc)

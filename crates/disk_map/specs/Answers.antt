@@ -10,11 +10,12 @@ use Rattle.sector_images.specs.declared.format.Format.{Format}
 use Rattle.flux_engine.specs.Answers.{IsTakenBehind}
 use Rattle.flux_engine.specs.Disks.{totals_over}
 use Rattle.flux_engine.specs.PlanAnswers.{MOST_OF_STREAM, PlanAnswer, SaysTruncated, most_of_track}
-use Rattle.flux_engine.specs.Plans.{ArePlannedParts, PlanStop, Planned, StopsAt, planned_count}
+use Rattle.flux_engine.specs.Plans.{ArePlannedParts, Planned, StopsAt, planned_count}
 use Rattle.flux_engine.specs.Plans.{streams_in}
 use Rattle.flux_engine.specs.Tracks.{TrackPart}
-use Rattle.flux_engine.specs.declared.fault.PlanFault.TheVariants.{ReadFault, ImageFault}
-use Rattle.flux_engine.specs.declared.fault.PlanFault.TheVariants.{NotesFault, Refused}
+use Rattle.flux_engine.specs.declared.fault.RefusedCapture.{RefusedCapture}
+use Rattle.flux_engine.specs.declared.fault.Stopped.TheVariants.{ReadFault, ImageFault}
+use Rattle.flux_engine.specs.declared.fault.Stopped.TheVariants.{NotesFault, Refused}
 use Rattle.flux_engine.specs.declared.plan.Plan.{Plan}
 use Rattle.disk_map.specs.Maps.{IsDrawn, drawn_by, foot_of, front_of, picture_of}
 use Rattle.disk_map.specs.Texts.{top_text}
@@ -23,7 +24,7 @@ use Rattle.disk_map.specs.Texts.{top_text}
 -- the input ends there, or the source failed; where the sink failed and the source is at its end,
 -- the input may be refused there
 abbrev pub IsOfDiskAtHand : (left' : Option (List ℕ)) → PlanAnswer → Type 0
-IsOfDiskAtHand left' (Err (Refused _ _ _ fault)) = fault ≡ Truncated
+IsOfDiskAtHand left' (Err (Refused stop)) = stop.fault ≡ Truncated
 IsOfDiskAtHand left' (Err ReadFault) = Unit {0}
 IsOfDiskAtHand left' (Err ImageFault) = IsAtEnd left'
 IsOfDiskAtHand left' _ = ⊥
@@ -41,7 +42,7 @@ pub record DrewFront (plan : Plan) (format : Format) (x : List ℕ)
   pub drawn : Planned
   pub is : IsDrawn plan format x drawn
   pub grew : Appends picture picture' (top_text format ++ drawn.image)
-  pub stop : PlanStop
+  pub stop : RefusedCapture
   pub stops : drawn.stop ≡ Some stop
   pub cut_short : stop.fault ≡ Truncated
 
@@ -50,7 +51,7 @@ pub record DrewFront (plan : Plan) (format : Format) (x : List ℕ)
 abbrev pub IsEnding : Plan → Format → (x : List ℕ) → List TrackPart → List ℕ → Type 0
 IsEnding plan format x parts ending =
     (ending ≡ [])
-    ⊎ ((stop : Option PlanStop) × StopsAt plan format (streams_in plan x) stop
+    ⊎ ((stop : Option RefusedCapture) × StopsAt plan format (streams_in plan x) stop
     × (length parts ≡ planned_count format stop)
     × (ending ≡ foot_of format (totals_over parts) stop))
 
@@ -76,10 +77,9 @@ abbrev pub SaysOfMap : Plan → Format → (x later : List ℕ) → (picture pic
 SaysOfMap plan format x later picture picture' (Ok totals) =
     (d : Planned) × Drew plan format x picture picture' d × (d.stop ≡ None) × (totals ≡ d.totals)
     × IsTakenBehind x later (length (tracks format) * plan.captures) 4096
-SaysOfMap plan format x later picture picture' (Err (Refused track capture block fault)) =
-    (d : Planned) × Drew plan format x picture picture' d
-    × (d.stop ≡ Some (record { track = track; capture = capture; block = block; fault = fault }))
-    × IsTakenBehind x later (track * plan.captures + capture) MOST_OF_STREAM
+SaysOfMap plan format x later picture picture' (Err (Refused stop)) =
+    (d : Planned) × Drew plan format x picture picture' d × (d.stop ≡ Some stop)
+    × IsTakenBehind x later (stop.track * plan.captures + stop.capture) MOST_OF_STREAM
 SaysOfMap plan format x later picture picture' (Err ReadFault) =
     DrewFront plan format x picture picture'
 SaysOfMap plan format x later picture picture' (Err ImageFault) =

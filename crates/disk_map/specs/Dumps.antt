@@ -13,15 +13,16 @@ use Rattle.turn_merge.specs.Others.{NotedOther}
 use Rattle.flux_engine.specs.Disks.{images, part_at, totals_over}
 use Rattle.flux_engine.specs.Plans.{PartOf, Seen}
 use Rattle.flux_engine.specs.Tracks.{TrackPart}
+use Rattle.flux_engine.specs.declared.fault.Stopped.{Stopped}
+use Rattle.flux_engine.specs.declared.fault.Stopped.TheVariants.{ReadFault, ImageFault}
+use Rattle.flux_engine.specs.declared.fault.Stopped.TheVariants.{NotesFault, Refused}
 use Rattle.dump_reading.specs.Beside.{no_lines}
 use Rattle.dump_reading.specs.Files.{ShelfNow}
 use Rattle.dump_reading.specs.Outcomes.{AreAllBy, AreTracksBy, DumpDisk, DumpsRead, FilesFailed}
 use Rattle.dump_reading.specs.Outcomes.{IsDumpsRead, IsReadBy, IsToldEmpty, LookedAsAsked}
 use Rattle.dump_reading.specs.Outcomes.{LookedBeside, numbers_of}
 use Rattle.dump_reading.specs.Reports.{read_part}
-use Rattle.dump_reading.specs.declared.fault.DumpsFault.{DumpsFault}
-use Rattle.dump_reading.specs.declared.fault.DumpsFault.TheVariants.{NoFiles, ImageFault}
-use Rattle.dump_reading.specs.declared.fault.DumpsFault.TheVariants.{NotesFault}
+use Rattle.dump_reading.specs.declared.fault.NoFiles.{NoFiles}
 use Rattle.dump_reading.specs.declared.totals.DumpTotals.{DumpTotals}
 use Rattle.disk_map.specs.Maps.{ShowsTrack, drawn_by}
 use Rattle.disk_map.specs.Places.{layout_of}
@@ -97,12 +98,13 @@ pub record StoppedInDumps (disk : DumpDisk) (start now : ShelfNow)
 -- What an answer says. A dump without files is told before anything is read or written; a
 -- file that fails ends nothing.
 abbrev pub SaysOfDrawing : DumpDisk → (start now : ShelfNow) → (picture picture' : Option (List ℕ))
-    → Result DumpTotals DumpsFault → Type 0
+    → Result DumpTotals (Stopped NoFiles) → Type 0
 SaysOfDrawing disk start now picture picture' (Ok totals) =
     IsToldEmpty disk start.told.files None × DrewDumps disk start now picture picture' totals
-SaysOfDrawing disk start now picture picture' (Err (NoFiles dump)) =
-    (dump < length disk.dumps) × IsToldEmpty disk start.told.files (Some dump) × (now ≡ start)
-    × (picture' ≡ picture)
+SaysOfDrawing disk start now picture picture' (Err ReadFault) = ⊥
+SaysOfDrawing disk start now picture picture' (Err (Refused empty)) =
+    (empty.dump < length disk.dumps) × IsToldEmpty disk start.told.files (Some empty.dump)
+    × (now ≡ start) × (picture' ≡ picture)
 SaysOfDrawing disk start now picture picture' (Err ImageFault) =
     StoppedInDumps disk start now picture picture'
 SaysOfDrawing disk start now picture picture' (Err NotesFault) = ⊥

@@ -7,9 +7,10 @@ use Rattle.sector_report.specs.declared.naming.Naming.{Naming}
 use Rattle.sector_report.specs.declared.totals.Totals.{Totals}
 use Rattle.turn_merge.specs.Readings.{NotedReading, verdict}
 use Rattle.flux_engine.specs.Disks.{images}
-use Rattle.flux_engine.specs.Plans.{IsPlanned, PartOf, PlanStop, Planned, streams_in}
+use Rattle.flux_engine.specs.Plans.{IsPlanned, PartOf, Planned, streams_in}
 use Rattle.flux_engine.specs.Recordings.{sectors_of, track_at}
 use Rattle.flux_engine.specs.Tracks.{TrackNotes, TrackPart, numbers, totals_of}
+use Rattle.flux_engine.specs.declared.fault.RefusedCapture.{RefusedCapture}
 use Rattle.flux_engine.specs.declared.plan.Plan.{Plan}
 use Rattle.disk_map.specs.Places.{layout_of}
 use Rattle.disk_map.specs.Texts.{field_by, foot_text, top_text}
@@ -49,11 +50,11 @@ abbrev pub front_of : Format → List TrackPart → List ℕ
 front_of format parts = top_text format ++ images parts
 
 -- the last line of a picture: the totals, or why the disk is refused
-abbrev pub last_of : Totals → Option PlanStop → List ℕ
+abbrev pub last_of : Totals → Option RefusedCapture → List ℕ
 last_of totals None = total_text totals
 last_of totals (Some stop) = refused_text stop.track stop.block stop.fault
 
-abbrev pub foot_of : Format → Totals → Option PlanStop → List ℕ
+abbrev pub foot_of : Format → Totals → Option RefusedCapture → List ℕ
 foot_of format totals stop = foot_text (layout_of format) totals (last_of totals stop)
 
 -- the bytes of a picture

@@ -4,7 +4,7 @@ ghost use Rattle.flux_base.specs.Blames.{CountsBy, no_counts, three_counts};
 ghost use Rattle.flux_base.specs.Moments.{Puts};
 ghost use Rattle.flux_base.specs.World.{sink_at, source_counts, sink_counts};
 ghost use Rattle.flux_engine.specs.Answers.{Stayed};
-ghost use Rattle.flux_engine.specs.Blamed.{plan_blame};
+ghost use Rattle.flux_engine.specs.Blamed.{stop_blame};
 ghost use Rattle.flux_engine.specs.Needed.{ReadsWhereOpen};
 ghost use Rattle.flux_engine.specs.PlanAnswers.{IsFinished};
 ghost use Rattle.flux_engine.specs.Plans.{EndsInPlan};
@@ -20,7 +20,9 @@ use crate::layout::Layout;
 use crate::text::write_text;
 use crate::texts::{begin_text, foot_text, grid_text, labels};
 use flux_base::{CountingSink, Failed, Sink, Source, write_whole};
-use flux_engine::{DiskRoom, Plan, PlanFault, decode_planned_tracks, no_totals, room_format};
+use flux_engine::{
+    DiskRoom, Plan, RefusedCapture, Stopped, decode_planned_tracks, no_totals, room_format,
+};
 use sector_images::Format;
 use sector_report::{Totals, refused_line, total_line};
 
@@ -35,7 +37,7 @@ pub fn map_disk<S: Source, P: Sink>(
     room: &mut DiskRoom,
     source: &mut S,
     picture: &mut P,
-) -> Result<Totals, PlanFault>
+) -> Result<Totals, Stopped<RefusedCapture>>
     requires fresh { room.old ≡ fresh room.old.format }
     requires some { 1 ≤ plan.captures }
     requires few { plan.captures ≤ 16 }
@@ -50,7 +52,7 @@ pub fn map_disk<S: Source, P: Sink>(
         → ReadsWhereOpen (EndsInPlan plan room.old.format) (reads_at S.Source source.old)
         (reads_at S.Source source.new) }
 
-    ensures blames { CountsBy (plan_blame result)
+    ensures blames { CountsBy (stop_blame result)
         (three_counts (source_counts S.Source source.old) (sink_counts P.Sink picture.old) no_counts)
         (three_counts (source_counts S.Source source.new) (sink_counts P.Sink picture.new) no_counts) }
 
@@ -61,7 +63,7 @@ pub fn map_disk<S: Source, P: Sink>(
     let format = room_format(room);
     match write_top("map", format, picture) {
         Ok(()) => {}
-        Err(_) => return Err(PlanFault::ImageFault),
+        Err(_) => return Err(Stopped::ImageFault),
     }
     let mut nothing = CountingSink::new();
     let mut totals = no_totals();
@@ -82,7 +84,7 @@ pub fn map_disk<S: Source, P: Sink>(
     let foot = foot_text(Layout::of_format(format), &totals, &total_line(&totals));
     match write_text(picture, &foot) {
         Ok(()) => Ok(totals),
-        Err(_) => Err(PlanFault::ImageFault),
+        Err(_) => Err(Stopped::ImageFault),
     }
 }
 
@@ -90,28 +92,23 @@ pub fn map_disk<S: Source, P: Sink>(
 fn end_early<P: Sink>(
     format: Format,
     totals: &Totals,
-    fault: PlanFault,
+    fault: Stopped<RefusedCapture>,
     picture: &mut P,
-) -> PlanFault
+) -> Stopped<RefusedCapture>
     ensures { EndsEarly format totals.now (sink_at P.Sink picture.old) (sink_at P.Sink picture.new) fault result }
 {
     match fault {
-        PlanFault::Refused {
-            track,
-            block,
-            fault: stream_fault,
-            ..
-        } => {
-            let last = refused_line(track, block, &stream_fault);
+        Stopped::Refused(refused) => {
+            let last = refused_line(refused.track, refused.block, &refused.fault);
             match write_text(
                 picture,
                 &foot_text(Layout::of_format(format), totals, &last),
             ) {
                 Ok(()) => fault,
-                Err(_) => PlanFault::ImageFault,
+                Err(_) => Stopped::ImageFault,
             }
         }
-        PlanFault::ReadFault | PlanFault::ImageFault | PlanFault::NotesFault => fault,
+        Stopped::ReadFault | Stopped::ImageFault | Stopped::NotesFault => fault,
     }
 }
 

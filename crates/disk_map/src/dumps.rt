@@ -5,7 +5,7 @@ ghost use Rattle.flux_base.specs.Blames.{CountsBy, no_counts, three_counts};
 ghost use Rattle.flux_base.specs.Moments.{Puts};
 ghost use Rattle.flux_base.specs.World.{sink_at, sink_counts};
 ghost use Rattle.flux_engine.specs.Room.{fresh};
-ghost use Rattle.dump_reading.specs.Blamed.{dumps_blame};
+ghost use Rattle.flux_engine.specs.Blamed.{sink_blame};
 ghost use Rattle.dump_reading.specs.Files.{shelf_at};
 ghost use Rattle.dump_reading.specs.Outcomes.{disk_of};
 ghost use Rattle.disk_map.specs.Dumps.{SaysOfDrawing, dumps_foot};
@@ -15,9 +15,9 @@ use crate::field_writer::FieldWriter;
 use crate::layout::Layout;
 use crate::text::write_text;
 use crate::texts::{counts_text, foot_text};
-use dump_reading::{DumpTotals, Dumps, DumpsFault, Looks, Unsaid, find_empty, read_dump_tracks};
+use dump_reading::{DumpTotals, Dumps, Looks, NoFiles, Unsaid, find_empty, read_dump_tracks};
 use flux_base::{CountingSink, Failed, Sink};
-use flux_engine::{Clocks, DiskRoom, room_format};
+use flux_engine::{Clocks, DiskRoom, Stopped, room_format};
 use sector_report::{Naming, total_line, unread_line};
 use track_shelf::Shelf;
 
@@ -34,25 +34,25 @@ pub fn map_dumps<H: Shelf, P: Sink>(
     room: &mut DiskRoom,
     shelf: &mut H,
     picture: &mut P,
-) -> Result<DumpTotals, DumpsFault>
+) -> Result<DumpTotals, Stopped<NoFiles>>
     requires fresh { room.old ≡ fresh room.old.format }
     requires few { length dumps.now.names.now ≤ 16 }
     ensures says { SaysOfDrawing (disk_of dumps.now room.old.format) (shelf_at H.Source H.Shelf.own shelf.old)
         (shelf_at H.Source H.Shelf.own shelf.new) (P.written picture.old) (P.written picture.new) result }
 
     // What the shelf did is in what came of it.
-    ensures blames { CountsBy (dumps_blame result)
+    ensures blames { CountsBy (sink_blame result)
         (three_counts no_counts (sink_counts P.Sink picture.old) no_counts)
         (three_counts no_counts (sink_counts P.Sink picture.new) no_counts) }
 {
     let format = room_format(room);
     match find_empty(dumps, format, shelf) {
         None => {}
-        Some(dump) => return Err(DumpsFault::NoFiles { dump }),
+        Some(dump) => return Err(Stopped::Refused(NoFiles { dump })),
     }
     match write_top("read", format, picture) {
         Ok(()) => {}
-        Err(Failed) => return Err(DumpsFault::ImageFault),
+        Err(Failed) => return Err(Stopped::ImageFault),
     }
     let writer = FieldWriter {
         naming: Naming::ByCaptureAndClock,
@@ -74,7 +74,7 @@ pub fn map_dumps<H: Shelf, P: Sink>(
     };
     match write_foot(Layout::of_format(format), &totals, picture) {
         Ok(()) => Ok(totals),
-        Err(Failed) => Err(DumpsFault::ImageFault),
+        Err(Failed) => Err(Stopped::ImageFault),
     }
 }
 

@@ -2,7 +2,8 @@
 use Rattle.std.proofs.Common.{◌≡◌, ℕ, List, [], ◌∷◌, Option, None, Some, Ok, Err, arith, sym, ap, subst, ◌∙◌}
 use Rattle.dump_reading.specs.Files.{ShelfNow}
 use Rattle.dump_reading.specs.Outcomes.{DumpDisk, IsToldEmpty, SaysOfDumps}
-use Rattle.dump_reading.specs.declared.fault.DumpsFault.TheVariants.{NoFiles}
+use Rattle.dump_reading.specs.declared.fault.NoFiles.{NoFiles}
+use Rattle.flux_engine.specs.declared.fault.Stopped.TheVariants.{Refused}
 use Rattle.dump_reading.specs.declared.looks.Looks.TheVariants.{WhereGood}
 use Rattle.dump_reading.specs.declared.totals.DumpTotals.{DumpTotals}
 use Rattle.flux_engine.specs.Room.{RoomState, fresh}
@@ -19,10 +20,10 @@ module _ (dump : List ℕ) (start now : ShelfNow) (candidate : Candidate) (disk 
       record { some = s.0; outcome = s.1.outcome; is = s.1.is; shelf = s.1.shelf; totals_are = s.1.totals_are }
 
   -- or of none
-  pub comes-none : (number : ℕ) → SaysOfDumps disk start now image image' notes notes' (Err (NoFiles number)) → ComesTo dump start now candidate None
-  comes-none number says =
-      let s = subst (λ (d : DumpDisk). SaysOfDumps d start now image image' notes notes' (Err (NoFiles number))) same says in
-      let first : number ≡ 0 = omega (arith, s.0) in
+  pub comes-none : (empty : NoFiles) → SaysOfDumps disk start now image image' notes notes' (Err (Refused empty)) → ComesTo dump start now candidate None
+  comes-none empty says =
+      let s = subst (λ (d : DumpDisk). SaysOfDumps d start now image image' notes notes' (Err (Refused empty))) same says in
+      let first : empty.dump ≡ 0 = omega (arith, s.0) in
       (subst (λ (n : ℕ). IsToldEmpty (disk_as dump candidate) start.told.files (Some n)) first s.1, s.2)
 
 -- the dump alone, as the candidate's disk

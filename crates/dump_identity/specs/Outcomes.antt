@@ -5,10 +5,11 @@ use Rattle.std.specs.Prelude.{Ok, Err}
 use Rattle.std.specs.Io.KnownBytes.{Appends, Keeps}
 use Rattle.std.specs.List.{list_any}
 use Rattle.flux_engine.specs.Answers.{AppendsAndPart}
+use Rattle.flux_engine.specs.declared.fault.Stopped.{Stopped}
+use Rattle.flux_engine.specs.declared.fault.Stopped.TheVariants.{ReadFault, ImageFault}
+use Rattle.flux_engine.specs.declared.fault.Stopped.TheVariants.{NotesFault, Refused}
 use Rattle.dump_reading.specs.Files.{ShelfNow}
-use Rattle.dump_reading.specs.declared.fault.DumpsFault.{DumpsFault}
-use Rattle.dump_reading.specs.declared.fault.DumpsFault.TheVariants.{NoFiles, ImageFault}
-use Rattle.dump_reading.specs.declared.fault.DumpsFault.TheVariants.{NotesFault}
+use Rattle.dump_reading.specs.declared.fault.NoFiles.{NoFiles}
 use Rattle.dump_identity.specs.Candidates.{candidates}
 use Rattle.dump_identity.specs.Findings.{AreFindings, best_of, has_files, identity_of}
 use Rattle.dump_identity.specs.Lines.{best_text, line_of, lines_of}
@@ -82,11 +83,12 @@ pub record WroteIntoBest (dump : List ℕ) (start now : ShelfNow)
 -- the first and only one, and nothing of it was read; a file that fails ends
 -- nothing. Nothing is written to notes.
 abbrev pub SaysOfIdentity : (dump : List ℕ) → (start now : ShelfNow)
-    → (lines lines' : Option (List ℕ)) → Result Identity DumpsFault → Type 0
+    → (lines lines' : Option (List ℕ)) → Result Identity (Stopped NoFiles) → Type 0
 SaysOfIdentity dump start now lines lines' (Ok identity) =
     WroteIdentity dump start now lines lines' identity
-SaysOfIdentity dump start now lines lines' (Err (NoFiles number)) =
-    (number ≡ 0) × HasNoFiles dump start now × (now ≡ start) × Keeps lines lines'
+SaysOfIdentity dump start now lines lines' (Err ReadFault) = ⊥
+SaysOfIdentity dump start now lines lines' (Err (Refused empty)) =
+    (empty.dump ≡ 0) × HasNoFiles dump start now × (now ≡ start) × Keeps lines lines'
 SaysOfIdentity dump start now lines lines' (Err ImageFault) =
     WroteIntoLine dump start now lines lines' ⊎ WroteIntoBest dump start now lines lines'
 SaysOfIdentity dump start now lines lines' (Err NotesFault) = ⊥

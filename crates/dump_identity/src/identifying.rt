@@ -5,8 +5,8 @@ ghost use Rattle.flux_base.specs.Blames.{CountsBy, no_counts, three_counts};
 ghost use Rattle.flux_base.specs.Counts.{Counts};
 ghost use Rattle.flux_base.specs.Moments.{Puts};
 ghost use Rattle.flux_base.specs.World.{sink_at, sink_counts};
+ghost use Rattle.flux_engine.specs.Blamed.{sink_blame};
 ghost use Rattle.flux_engine.specs.Room.{empty_book, fresh};
-ghost use Rattle.dump_reading.specs.Blamed.{dumps_blame};
 ghost use Rattle.dump_reading.specs.Files.{shelf_at};
 ghost use Rattle.dump_identity.specs.Findings.{ComesTo};
 ghost use Rattle.dump_identity.specs.Lines.{line_of};
@@ -19,9 +19,9 @@ use crate::identity::Identity;
 use crate::lines::{best_line, finding_line};
 use crate::room::{IdentityRoom, Trial};
 use crate::tried::Tried;
-use dump_reading::{DumpTotals, Dumps, DumpsFault, Looks, read_dumps_by};
+use dump_reading::{DumpTotals, Dumps, Looks, NoFiles, read_dumps_by};
 use flux_base::{CountingSink, Failed, Sink, Word};
-use flux_engine::{Clocks, DiskRoom};
+use flux_engine::{Clocks, DiskRoom, Stopped};
 use sector_report::write_line;
 use std::slice::from_ref;
 use track_shelf::Shelf;
@@ -42,28 +42,28 @@ pub fn identify<H: Shelf, W: Sink>(
     room: IdentityRoom,
     shelf: &mut H,
     lines: &mut W,
-) -> Result<Identity, DumpsFault>
+) -> Result<Identity, Stopped<NoFiles>>
     ensures says { SaysOfIdentity dump.now (shelf_at H.Source H.Shelf.own shelf.old)
         (shelf_at H.Source H.Shelf.own shelf.new) (W.written lines.old) (W.written lines.new) result }
 
     // What the shelf did is in what came of it.
-    ensures blames { CountsBy (dumps_blame result)
+    ensures blames { CountsBy (sink_blame result)
         (three_counts no_counts (sink_counts W.Sink lines.old) no_counts)
         (three_counts no_counts (sink_counts W.Sink lines.new) no_counts) }
 {
     let tried = match try_all(dump, room, shelf, lines) {
         Ok(tried) => tried,
-        Err(Failed) => return Err(DumpsFault::ImageFault),
+        Err(Failed) => return Err(Stopped::ImageFault),
     };
     if !tried.has_files {
-        return Err(DumpsFault::NoFiles { dump: 0 });
+        return Err(Stopped::Refused(NoFiles { dump: 0 }));
     }
     match write_line(lines, &best_line(&tried.best)) {
         Ok(()) => Ok(Identity {
             best: tried.best,
             failed: tried.failed,
         }),
-        Err(Failed) => Err(DumpsFault::ImageFault),
+        Err(Failed) => Err(Stopped::ImageFault),
     }
 }
 
@@ -150,10 +150,11 @@ fn read_as<H: Shelf>(
         &mut notes,
     ) {
         Ok(totals) => Some(totals),
-        Err(DumpsFault::NoFiles { .. }) => None,
-        // The sinks do not fail.
-        Err(DumpsFault::ImageFault) => unreachable!(),
-        Err(DumpsFault::NotesFault) => unreachable!(),
+        Err(Stopped::Refused(_)) => None,
+        // A file that fails ends nothing, and the sinks do not fail.
+        Err(Stopped::ReadFault) => unreachable!(),
+        Err(Stopped::ImageFault) => unreachable!(),
+        Err(Stopped::NotesFault) => unreachable!(),
     }
 }
 

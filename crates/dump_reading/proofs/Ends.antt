@@ -8,17 +8,18 @@ use Rattle.sector_images.specs.Places.{tracks}
 use Rattle.sector_images.specs.declared.format.Format.{Format}
 use Rattle.sector_report.specs.declared.totals.Totals.{Totals}
 use Rattle.flux_engine.specs.Counts.{names_of, told_count, whole_count, whole_names_of}
+use Rattle.flux_engine.specs.Cut.{WritesFront}
 use Rattle.flux_engine.specs.Disks.{images, lines}
-use Rattle.flux_engine.specs.LoopProgress.{EndedBySink, EndsLoop, HasWritten, WritesFront, lost_count}
+use Rattle.flux_engine.specs.LoopProgress.{EndedBySink, EndsLoop, HasWritten, lost_count}
 use Rattle.flux_engine.specs.PlanAnswers.{of_part}
 use Rattle.flux_engine.specs.Plans.{PartOf, Seen}
 use Rattle.flux_engine.specs.Room.{RoomState}
 use Rattle.kryo_stream.specs.declared.fault.CaptureFault.{CaptureFault}
-use Rattle.flux_engine.specs.declared.fault.PlanFault.{PlanFault}
-use Rattle.flux_engine.specs.declared.fault.PlanFault.TheVariants.{ReadFault, ImageFault, NotesFault, Refused}
+use Rattle.flux_engine.specs.declared.fault.RefusedCapture.{RefusedCapture}
+use Rattle.flux_engine.specs.declared.fault.Stopped.{Stopped}
+use Rattle.flux_engine.specs.declared.fault.Stopped.TheVariants.{ReadFault, Refused}
 use Rattle.flux_engine.specs.declared.track_part.PartFault.{PartFault}
 use Rattle.flux_engine.specs.declared.track_part.PartFault.TheVariants.{ImageFault as PartImageFault, NotesFault as PartNotesFault}
-use Rattle.kryo_stream.specs.declared.fault.StreamFault.{StreamFault}
 use Rattle.track_shelf.specs.Files.{File}
 use Rattle.track_shelf.specs.Told.{ShelfTold, with_failed}
 use Rattle.turn_merge.specs.Others.{NotedOther, has_untold, others_over}
@@ -26,7 +27,7 @@ use Rattle.dump_reading.specs.Beside.{AreBeside, LinesOf, beside_lines, lines_at
 use Rattle.dump_reading.specs.DumpStreams.{HaveComeOf, failed_paths, of_disk}
 use Rattle.dump_reading.specs.Files.{CountsMany, ShelfNow}
 use Rattle.dump_reading.specs.inside.Looks.{LooksAsAsked, LooksInto}
-use Rattle.dump_reading.specs.Outcomes.{AreAllBy, DumpDisk, FilesFailed, HasTracksBy, LookedAsAsked, LookedBeside, WroteDumps, WroteIntoBesideBy, WroteIntoEnd, WroteIntoImageBy, WroteIntoLinesBy, lines_of, numbers_of, plan_of}
+use Rattle.dump_reading.specs.Outcomes.{AreAllBy, DumpDisk, DumpsCutInTrack, FilesFailed, HasTracksBy, LookedAsAsked, LookedBeside, WroteDumps, WroteIntoBesideBy, WroteIntoEnd, lines_of, numbers_of, plan_of}
 use Rattle.dump_reading.specs.Reports.{end_text, read_part}
 use Rattle.dump_reading.specs.declared.totals.DumpTotals.{DumpTotals}
 use Rattle.dump_reading.specs.lemmas.Coming.{counts-both, failed-both}
@@ -151,16 +152,19 @@ module _ (of : PartOf) (disk : DumpDisk) (start now : ShelfNow) where
       pub beside-wrote : LooksInto beside_of (record disk { format = room.format }) totals now last notes' notes'' → WroteIntoBesideBy of beside_of disk start last image image' notes notes''
       beside-wrote looks = wrote-so (into-format looks)
 
-    abbrev pub Ends : PlanFault → Type 0
+    abbrev pub Ends : Stopped RefusedCapture → Type 0
     Ends fault = EndsLoop (plan_of disk) of disk.format CameOf EndedOf image image' notes notes' room totals fault
 
-    image-is-no-notes : ImageFault ≡ NotesFault → ⊥
-    image-is-no-notes same = cc
+    same-part : (a b : PartFault) → (let of : PartFault → Stopped RefusedCapture = of_part in of a ≡ of b) → a ≡ b
+    same-part PartImageFault PartImageFault same = refl
+    same-part PartImageFault PartNotesFault same = absurd (cc)
+    same-part PartNotesFault PartImageFault same = absurd (cc)
+    same-part PartNotesFault PartNotesFault same = refl
 
-    abbrev BySink : PlanFault → Type 0
+    abbrev BySink : Stopped RefusedCapture → Type 0
     BySink fault = EndedBySink (plan_of disk) of disk.format CameOf image image' notes notes' room fault
 
-    sink-all : (fault : PlanFault) (s : BySink fault) → length s.streams ≡ length (s.parts ++ s.next ∷ []) * length disk.dumps
+    sink-all : (fault : Stopped RefusedCapture) (s : BySink fault) → length s.streams ≡ length (s.parts ++ s.next ∷ []) * length disk.dumps
     sink-all fault s =
         let many : length (s.parts ++ s.next ∷ []) ≡ length s.parts + 1 = length-append s.parts (s.next ∷ []) in
         s.all ∙ sym (ap (λ (n : ℕ). n * length disk.dumps) many ∙ times-next (length s.parts) (length disk.dumps))
@@ -168,41 +172,21 @@ module _ (of : PartOf) (disk : DumpDisk) (start now : ShelfNow) where
         times-next : (n m : ℕ) → (n + 1) * m ≡ n * m + m
         times-next n m = grind (arith)
 
-    pub image-wrote : Ends ImageFault → WroteIntoImageBy of disk start now image image' notes notes'
-    image-wrote (inl e) = absurd e.ended.ended
-    image-wrote (inr s) = by s.cause s.is s.wrote
-      where
-        by : (cause : PartFault) → ImageFault ≡ of_part cause → WritesFront cause s.parts s.next image image' notes notes' → WroteIntoImageBy of disk start now image image' notes notes'
-        by PartImageFault same wrote = record {
-          streams = s.streams;
-          parts = s.parts;
-          next = s.next;
-          few = s.low;
-          read = record { all = sink-all ImageFault s; are = s.came.are; each = s.each };
-          shelf = failed-of s.streams s.came;
-          image_grew = wrote.0;
-          notes_grew = wrote.1;
-        }
-        by PartNotesFault same wrote = absurd (image-is-no-notes same)
+    pub cut-wrote : (cause : PartFault) → Ends (of_part cause) → DumpsCutInTrack cause of disk start now image image' notes notes'
+    cut-wrote cause (inl e) = absurd e.ended.ended
+    cut-wrote cause (inr s) = record {
+      parts = s.parts;
+      next = s.next;
+      are = record {
+        streams = s.streams;
+        read = record { all = sink-all (of_part cause) s; are = s.came.are; each = s.each };
+        shelf = failed-of s.streams s.came;
+      };
+      few = s.low;
+      wrote = subst (λ (c : PartFault). WritesFront c s.parts s.next image image' notes notes') (same-part s.cause cause (sym s.is)) s.wrote;
+    }
 
-    pub lines-wrote : Ends NotesFault → WroteIntoLinesBy of disk start now image image' notes notes'
-    lines-wrote (inl e) = absurd e.ended.ended
-    lines-wrote (inr s) = by s.cause s.is s.wrote
-      where
-        by : (cause : PartFault) → NotesFault ≡ of_part cause → WritesFront cause s.parts s.next image image' notes notes' → WroteIntoLinesBy of disk start now image image' notes notes'
-        by PartImageFault same wrote = absurd (image-is-no-notes (sym same))
-        by PartNotesFault same wrote = record {
-          streams = s.streams;
-          parts = s.parts;
-          next = s.next;
-          few = s.low;
-          read = record { all = sink-all NotesFault s; are = s.came.are; each = s.each };
-          shelf = failed-of s.streams s.came;
-          image_grew = wrote.0;
-          notes_grew = wrote.1;
-        }
-
-    read-is-no-part : (cause : PartFault) → ReadFault ≡ of_part cause → ⊥
+    read-is-no-part : (cause : PartFault) → ReadFault ≡ (let fault : Stopped RefusedCapture = of_part cause in fault) → ⊥
     read-is-no-part PartImageFault same = cc
     read-is-no-part PartNotesFault same = cc
 
@@ -211,13 +195,13 @@ module _ (of : PartOf) (disk : DumpDisk) (start now : ShelfNow) where
     never-unread (inl e) = e.ended.ended
     never-unread (inr s) = read-is-no-part s.cause s.is
 
-    refused-is-no-part : (track capture block : ℕ) (fault : StreamFault) (cause : PartFault) → Refused track capture block fault ≡ of_part cause → ⊥
-    refused-is-no-part track capture block fault PartImageFault same = cc
-    refused-is-no-part track capture block fault PartNotesFault same = cc
+    refused-is-no-part : (stop : RefusedCapture) (cause : PartFault) → Refused stop ≡ of_part cause → ⊥
+    refused-is-no-part stop PartImageFault same = cc
+    refused-is-no-part stop PartNotesFault same = cc
 
-    pub never-refused : (track capture block : ℕ) (fault : StreamFault) → Ends (Refused track capture block fault) → ⊥
-    never-refused track capture block fault (inl e) = e.ended.ended
-    never-refused track capture block fault (inr s) = refused-is-no-part track capture block fault s.cause s.is
+    pub never-refused : (stop : RefusedCapture) → Ends (Refused stop) → ⊥
+    never-refused stop (inl e) = e.ended.ended
+    never-refused stop (inr s) = refused-is-no-part stop s.cause s.is
 
 module _ (disk : DumpDisk) (start now : ShelfNow) (image image' notes mid notes' : Option (List ℕ)) (totals : DumpTotals)
     (r : HasTracksBy read_part beside_lines disk start now image image' notes mid totals) where

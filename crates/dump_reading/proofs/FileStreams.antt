@@ -8,7 +8,7 @@ use Rattle.kryo_stream.specs.declared.fault.StreamFault.{StreamFault}
 use Rattle.sector_report.specs.declared.dump_lines.Passed.TheVariants.{Refused}
 use Rattle.flux_engine.specs.Answers.{CaptureAnswer, IsOfCaptureAtHand, ReadsStream, SaysOfCapture}
 use Rattle.flux_engine.specs.LoopProgress.{seen_next}
-use Rattle.kryo_stream.specs.declared.fault.CaptureFault.TheVariants.{Refused as RefusedCapture}
+use Rattle.kryo_stream.specs.declared.fault.CaptureFault.TheVariants.{Refused as RefusedStream}
 use Rattle.flux_engine.specs.declared.track_streams.NextStream.TheVariants.{Read, PassedOver}
 use Rattle.dump_reading.specs.DumpStreams.{seen_file, seen_unless}
 
@@ -39,8 +39,8 @@ module _ (bytes : List ℕ) (left : Option (List ℕ)) (told : left ≡ Some byt
       ∙ ap (seen_unless bytes) (sym says.no_fault)
 
   -- it is refused
-  pub file-refused : (block : ℕ) (fault : StreamFault) → ReadsStream left left' used held held' flux.times flux.indexes (Err (RefusedCapture block fault))
+  pub file-refused : (block : ℕ) (fault : StreamFault) → ReadsStream left left' used held held' flux.times flux.indexes (Err (RefusedStream block fault))
       → seen_next (PassedOver (Refused block fault)) flux ≡ seen_file bytes
   file-refused block fault r =
-      let says = (said (Err (RefusedCapture block fault)) r (λ stays same of. subst IsAtEnd same (r.ended of))).1 in
+      let says = (said (Err (RefusedStream block fault)) r (λ stays same of. subst IsAtEnd same (r.ended of))).1 in
       ap (seen_unless bytes) (sym says)

@@ -1,5 +1,4 @@
 pub mod Files
-pub mod Blamed
 pub mod Totals
 pub mod DumpStreams
 pub mod Reports

@@ -17,23 +17,28 @@ use Rattle.track_shelf.specs.Told.{with_failed}
 use Rattle.track_shelf.specs.declared.stepping.Stepping.{Stepping}
 use Rattle.flux_engine.specs.Answers.{AppendsAndPart}
 use Rattle.flux_engine.specs.Counts.{AreOthersOver, told_count, whole_count}
+use Rattle.flux_engine.specs.Cut.{CutInTrack}
 use Rattle.flux_engine.specs.Disks.{images, lines, totals_over}
 use Rattle.flux_engine.specs.LoopProgress.{lost_count, passed_count, streams_over}
 use Rattle.flux_engine.specs.Plans.{ArePlannedParts, PartOf, Seen}
 use Rattle.flux_engine.specs.Tracks.{TrackPart}
 use Rattle.flux_engine.specs.declared.plan.Clocks.{Clocks}
 use Rattle.flux_engine.specs.declared.plan.Clocks.TheVariants.{Both}
+use Rattle.flux_engine.specs.declared.fault.Stopped.{Stopped}
+use Rattle.flux_engine.specs.declared.fault.Stopped.TheVariants.{ReadFault, ImageFault}
+use Rattle.flux_engine.specs.declared.fault.Stopped.TheVariants.{NotesFault, Refused}
 use Rattle.flux_engine.specs.declared.plan.Plan.{Plan}
+use Rattle.flux_engine.specs.declared.track_part.PartFault.{PartFault}
+use Rattle.flux_engine.specs.declared.track_part.PartFault.TheVariants.{ImageFault as PartImageFault}
+use Rattle.flux_engine.specs.declared.track_part.PartFault.TheVariants.{NotesFault as PartNotesFault}
 use Rattle.dump_reading.specs.Beside.{AreBeside, LinesOf, beside_lines, beside_tracks, lines_at}
 use Rattle.dump_reading.specs.Beside.{lines_to, looks_beside, of_beside, told_beside}
 use Rattle.dump_reading.specs.DumpStreams.{AreOfDumps, failed_paths, of_disk}
 use Rattle.dump_reading.specs.Files.{CountsMany, ShelfNow}
 use Rattle.dump_reading.specs.Reports.{end_text, plan_by, read_part}
 use Rattle.dump_reading.specs.declared.dumps.Dumps.{Dumps}
-use Rattle.dump_reading.specs.declared.fault.DumpsFault.{DumpsFault}
+use Rattle.dump_reading.specs.declared.fault.NoFiles.{NoFiles}
 use Rattle.dump_reading.specs.declared.totals.DumpTotals.{DumpTotals}
-use Rattle.dump_reading.specs.declared.fault.DumpsFault.TheVariants.{NoFiles, ImageFault}
-use Rattle.dump_reading.specs.declared.fault.DumpsFault.TheVariants.{NotesFault}
 use Rattle.dump_reading.specs.declared.looks.Looks.{Looks}
 use Rattle.dump_reading.specs.declared.looks.Looks.TheVariants.{Always}
 
@@ -206,31 +211,19 @@ pub record WroteDumps (disk : DumpDisk) (start now : ShelfNow)
   pub notes_grew : Appends notes notes' outcome.notes
   pub totals_are : totals ≡ outcome.totals
 
--- what becomes of the first tracks was written, and of the next track a part of its part of the
--- image that is shorter than it
-pub record WroteIntoImageBy (of : PartOf) (disk : DumpDisk) (start now : ShelfNow)
-    (image image' notes notes' : Option (List ℕ)) : Type 0 where
+-- this becomes of the first tracks, and nothing else was read
+pub record WereRead (of : PartOf) (disk : DumpDisk) (start now : ShelfNow)
+    (parts : List TrackPart) : Type 0 where
   pub streams : List Seen
-  pub parts : List TrackPart
-  pub next : TrackPart
-  pub few : length parts < length (tracks disk.format)
-  pub read : AreTracksBy of disk start.told.files streams (parts ++ next ∷ [])
+  pub read : AreTracksBy of disk start.told.files streams parts
   pub shelf : FilesFailed disk start now streams []
-  pub image_grew : AppendsAndPart image image' (images parts) next.image
-  pub notes_grew : Appends notes notes' (lines parts)
 
--- the same, and of the next track its part of the image, and a part of its lines
--- that is shorter than they are
-pub record WroteIntoLinesBy (of : PartOf) (disk : DumpDisk) (start now : ShelfNow)
-    (image image' notes notes' : Option (List ℕ)) : Type 0 where
-  pub streams : List Seen
-  pub parts : List TrackPart
-  pub next : TrackPart
-  pub few : length parts < length (tracks disk.format)
-  pub read : AreTracksBy of disk start.told.files streams (parts ++ next ∷ [])
-  pub shelf : FilesFailed disk start now streams []
-  pub image_grew : Appends image image' (images (parts ++ next ∷ []))
-  pub notes_grew : AppendsAndPart notes notes' (lines parts) next.lines
+-- a sink failed in a track, of which all files were read
+abbrev pub DumpsCutInTrack : PartFault → PartOf → DumpDisk → (start now : ShelfNow)
+    → (image image' notes notes' : Option (List ℕ)) → Type 0
+DumpsCutInTrack cause of disk start now =
+    CutInTrack (λ parts next. WereRead of disk start now (parts ++ next ∷ []))
+    (length (tracks disk.format)) cause
 
 -- what becomes of all tracks of the format was written, and of those beside them the first ones'
 -- lines, and a part of the next one's
@@ -255,12 +248,13 @@ pub record WroteIntoBesideBy (of : PartOf) (beside_of : LinesOf) (disk : DumpDis
 -- what was written of the tracks where reading them stopped: a fault of a sink alone stops it; a
 -- dump without files was told before
 abbrev pub StopsBy : PartOf → LinesOf → DumpDisk → (start now : ShelfNow)
-    → (image image' notes notes' : Option (List ℕ)) → DumpsFault → Type 0
-StopsBy of beside_of disk start now image image' notes notes' (NoFiles dump) = ⊥
+    → (image image' notes notes' : Option (List ℕ)) → Stopped NoFiles → Type 0
+StopsBy of beside_of disk start now image image' notes notes' ReadFault = ⊥
+StopsBy of beside_of disk start now image image' notes notes' (Refused empty) = ⊥
 StopsBy of beside_of disk start now image image' notes notes' ImageFault =
-    WroteIntoImageBy of disk start now image image' notes notes'
+    DumpsCutInTrack PartImageFault of disk start now image image' notes notes'
 StopsBy of beside_of disk start now image image' notes notes' NotesFault =
-    WroteIntoLinesBy of disk start now image image' notes notes'
+    DumpsCutInTrack PartNotesFault of disk start now image image' notes notes'
     ⊎ WroteIntoBesideBy of beside_of disk start now image image' notes notes'
 
 -- all was written but the last two lines: of them a part that is shorter than they are
@@ -280,15 +274,16 @@ pub record WroteIntoEnd (disk : DumpDisk) (start now : ShelfNow)
 -- What an answer says. A dump without files is told before anything is read or written; a
 -- file that fails ends nothing.
 abbrev pub SaysOfDumps : DumpDisk → (start now : ShelfNow)
-    → (image image' notes notes' : Option (List ℕ)) → Result DumpTotals DumpsFault → Type 0
+    → (image image' notes notes' : Option (List ℕ)) → Result DumpTotals (Stopped NoFiles) → Type 0
 SaysOfDumps disk start now image image' notes notes' (Ok totals) =
     IsToldEmpty disk start.told.files None
     × WroteDumps disk start now image image' notes notes' totals
-SaysOfDumps disk start now image image' notes notes' (Err (NoFiles dump)) =
-    (dump < length disk.dumps) × IsToldEmpty disk start.told.files (Some dump) × (now ≡ start)
-    × (image' ≡ image) × (notes' ≡ notes)
+SaysOfDumps disk start now image image' notes notes' (Err ReadFault) = ⊥
+SaysOfDumps disk start now image image' notes notes' (Err (Refused empty)) =
+    (empty.dump < length disk.dumps) × IsToldEmpty disk start.told.files (Some empty.dump)
+    × (now ≡ start) × (image' ≡ image) × (notes' ≡ notes)
 SaysOfDumps disk start now image image' notes notes' (Err ImageFault) =
-    WroteIntoImageBy read_part disk start now image image' notes notes'
+    StopsBy read_part beside_lines disk start now image image' notes notes' ImageFault
 SaysOfDumps disk start now image image' notes notes' (Err NotesFault) =
     StopsBy read_part beside_lines disk start now image image' notes notes' NotesFault
     ⊎ WroteIntoEnd disk start now image image' notes notes'

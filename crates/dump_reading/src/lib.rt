@@ -14,7 +14,7 @@ mod totals;
 
 pub use beside::{BesideWriter, Unsaid};
 pub use dumps::Dumps;
-pub use fault::DumpsFault;
+pub use fault::NoFiles;
 pub use looking::find_empty;
 pub use looks::Looks;
 pub use reading::{read_dump_tracks, read_dumps, read_dumps_by};

@@ -5,21 +5,21 @@ ghost use Rattle.flux_base.specs.Blames.{CountsBy};
 ghost use Rattle.flux_base.specs.Moments.{Puts};
 ghost use Rattle.flux_base.specs.World.{sink_at, sinks_counts};
 ghost use Rattle.flux_engine.specs.Room.{fresh};
-ghost use Rattle.dump_reading.specs.Blamed.{dumps_blame};
+ghost use Rattle.flux_engine.specs.Blamed.{sink_blame};
 ghost use Rattle.dump_reading.specs.Files.{shelf_at};
 ghost use Rattle.dump_reading.specs.Outcomes.{HasTracksBy, SaysOfDumps, StopsBy, disk_by, disk_of};
 ghost use Rattle.dump_reading.specs.Reports.{end_text};
 
 use crate::beside::{BesideReport, BesideWriter, read_beside};
 use crate::dumps::Dumps;
-use crate::fault::DumpsFault;
+use crate::fault::NoFiles;
 use crate::looking::find_empty;
 use crate::looks::Looks;
 use crate::report::{DumpReport, NAMING};
 use crate::totals::DumpTotals;
 use flux_base::{Failed, Sink};
 use flux_engine::{
-    Clocks, DiskRoom, Plan, PlanFault, Rule, TrackWriter, decode_tracks, no_totals, room_format,
+    Clocks, DiskRoom, Plan, Rule, Stopped, TrackWriter, decode_tracks, no_totals, room_format,
 };
 use sector_report::{total_line, unread_line, write_line};
 use track_shelf::Shelf;
@@ -39,7 +39,7 @@ pub fn read_dumps<H: Shelf, W: Sink, N: Sink>(
     shelf: &mut H,
     image: &mut W,
     notes: &mut N,
-) -> Result<DumpTotals, DumpsFault>
+) -> Result<DumpTotals, Stopped<NoFiles>>
     requires fresh { room.old ≡ fresh room.old.format }
     requires few { length dumps.now.names.now ≤ 16 }
     ensures says { SaysOfDumps (disk_of dumps.now room.old.format) (shelf_at H.Source H.Shelf.own shelf.old)
@@ -47,7 +47,7 @@ pub fn read_dumps<H: Shelf, W: Sink, N: Sink>(
         (N.written notes.new) result }
 
     // What the shelf did is in what came of it.
-    ensures blames { CountsBy (dumps_blame result)
+    ensures blames { CountsBy (sink_blame result)
         (sinks_counts W.Sink N.Sink image.old notes.old)
         (sinks_counts W.Sink N.Sink image.new notes.new) }
 {
@@ -71,7 +71,7 @@ pub fn read_dumps_by<H: Shelf, W: Sink, N: Sink>(
     shelf: &mut H,
     image: &mut W,
     notes: &mut N,
-) -> Result<DumpTotals, DumpsFault>
+) -> Result<DumpTotals, Stopped<NoFiles>>
     requires fresh { room.old ≡ fresh room.old.format }
     requires few { length dumps.now.names.now ≤ 16 }
     ensures says { SaysOfDumps (disk_by clocks looks dumps.now room.old.format)
@@ -79,13 +79,13 @@ pub fn read_dumps_by<H: Shelf, W: Sink, N: Sink>(
         (W.written image.new) (N.written notes.old) (N.written notes.new) result }
 
     // What the shelf did is in what came of it.
-    ensures blames { CountsBy (dumps_blame result)
+    ensures blames { CountsBy (sink_blame result)
         (sinks_counts W.Sink N.Sink image.old notes.old)
         (sinks_counts W.Sink N.Sink image.new notes.new) }
 {
     match find_empty(dumps, room_format(room), shelf) {
         None => {}
-        Some(dump) => return Err(DumpsFault::NoFiles { dump }),
+        Some(dump) => return Err(Stopped::Refused(NoFiles { dump })),
     }
     let read = read_dump_tracks(
         clocks,
@@ -104,12 +104,12 @@ pub fn read_dumps_by<H: Shelf, W: Sink, N: Sink>(
     };
     match write_end(&totals, notes) {
         Ok(()) => Ok(totals),
-        Err(Failed) => Err(DumpsFault::NotesFault),
+        Err(Failed) => Err(Stopped::NotesFault),
     }
 }
 
 /// Reads all tracks of a disk of its dumps, and those beside them where that is asked for, as `read_dumps_by` does, and
-/// gives what was gathered of each to a writer. That dumps have files is not looked at here, so `NoFiles` does not
+/// gives what was gathered of each to a writer. That dumps have files is not looked at here, so `Refused` does not
 /// come. After a fault nothing more is read or written, and the tracks before are written whole.
 pub fn read_dump_tracks<O: TrackWriter, B: BesideWriter, H: Shelf, W: Sink, N: Sink>(
     clocks: Clocks,
@@ -121,7 +121,7 @@ pub fn read_dump_tracks<O: TrackWriter, B: BesideWriter, H: Shelf, W: Sink, N: S
     shelf: &mut H,
     image: &mut W,
     notes: &mut N,
-) -> Result<DumpTotals, DumpsFault>
+) -> Result<DumpTotals, Stopped<NoFiles>>
     requires fresh { room.old ≡ fresh room.old.format }
     requires few { length dumps.now.names.now ≤ 16 }
     ensures ok { IfOk result
@@ -134,7 +134,7 @@ pub fn read_dump_tracks<O: TrackWriter, B: BesideWriter, H: Shelf, W: Sink, N: S
         (W.written image.new) (N.written notes.old) (N.written notes.new)) }
 
     // What the shelf did is in what came of it.
-    ensures blames { CountsBy (dumps_blame result)
+    ensures blames { CountsBy (sink_blame result)
         (sinks_counts W.Sink N.Sink image.old notes.old)
         (sinks_counts W.Sink N.Sink image.new notes.new) }
 {
@@ -147,10 +147,10 @@ pub fn read_dump_tracks<O: TrackWriter, B: BesideWriter, H: Shelf, W: Sink, N: S
     let mut sectors = no_totals();
     match decode_tracks(plan, dumps, writer, room, shelf, image, notes, &mut sectors) {
         Ok(()) => {}
-        Err(PlanFault::ImageFault) => return Err(DumpsFault::ImageFault),
-        Err(PlanFault::NotesFault) => return Err(DumpsFault::NotesFault),
+        Err(Stopped::ImageFault) => return Err(Stopped::ImageFault),
+        Err(Stopped::NotesFault) => return Err(Stopped::NotesFault),
         // No stream ends a disk of dumps.
-        Err(PlanFault::ReadFault | PlanFault::Refused { .. }) => unreachable!(),
+        Err(Stopped::ReadFault | Stopped::Refused(_)) => unreachable!(),
     }
     match read_beside(clocks, looks, &sectors, dumps, beside, room, shelf, notes) {
         Ok(()) => Ok(DumpTotals {
@@ -160,7 +160,7 @@ pub fn read_dump_tracks<O: TrackWriter, B: BesideWriter, H: Shelf, W: Sink, N: S
             others: room.told_others(),
             whole: room.whole_others(),
         }),
-        Err(Failed) => Err(DumpsFault::NotesFault),
+        Err(Failed) => Err(Stopped::NotesFault),
     }
 }
 

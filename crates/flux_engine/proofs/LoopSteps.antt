@@ -22,7 +22,8 @@ use Rattle.flux_engine.specs.Answers.{AppendsAndPart}
 use Rattle.flux_engine.specs.Captured.{AreOthersOf, AreReadingsOf}
 use Rattle.flux_engine.specs.Counts.{AreCountsBelow, AreOthersOver, CountsTrack, counted, lost_in, names_of, told_count, whole_count, whole_names_of}
 use Rattle.flux_engine.specs.Disks.{images, lines, no_totals, totals_over}
-use Rattle.flux_engine.specs.LoopProgress.{AreWhole, EndedBySink, EndedInTrack, HasGathered, HasTakenNext, HasWritten, WritesFront, lost_count, passed_count, seen_at, streams_over}
+use Rattle.flux_engine.specs.Cut.{WritesFront}
+use Rattle.flux_engine.specs.LoopProgress.{AreWhole, EndedBySink, EndedInTrack, HasGathered, HasTakenNext, HasWritten, lost_count, passed_count, seen_at, streams_over}
 use Rattle.flux_engine.specs.PlanAnswers.{of_part, of_stream}
 use Rattle.flux_engine.specs.Plans.{AreCaptures, AreOthersTo, ArePlannedParts, PartOf, Seen, Streams, is_failed, joined, passed_one, passed_to}
 use Rattle.flux_engine.specs.Recordings.{track_at}

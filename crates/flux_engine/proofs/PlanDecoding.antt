@@ -16,22 +16,23 @@ use Rattle.flux_engine.specs.Room.{RoomState}
 use Rattle.flux_engine.specs.Streams.{behind}
 use Rattle.flux_engine.specs.PlanAnswers.{DecodesPlanned, SaysOfPlanned, WrotePlanned, of_part}
 use Rattle.flux_engine.specs.PlanProgress.{EndedInStream, EndsInTracks, HasPlanned, StoppedAt}
-use Rattle.flux_engine.specs.Plans.{PartOf, PlanStop, Planned}
+use Rattle.flux_engine.specs.Plans.{PartOf, Planned}
 use Rattle.flux_engine.specs.declared.track_part.PartFault.{PartFault}
 use Rattle.flux_engine.specs.declared.track_part.PartFault.TheVariants.{ImageFault as PartImageFault, NotesFault as PartNotesFault}
-use Rattle.flux_engine.specs.declared.fault.PlanFault.{PlanFault}
-use Rattle.flux_engine.specs.declared.fault.PlanFault.TheVariants.{ReadFault, ImageFault, NotesFault, Refused}
+use Rattle.flux_engine.specs.declared.fault.RefusedCapture.{RefusedCapture}
+use Rattle.flux_engine.specs.declared.fault.Stopped.{Stopped}
+use Rattle.flux_engine.specs.declared.fault.Stopped.TheVariants.{ReadFault, ImageFault, NotesFault, Refused}
 use Rattle.flux_engine.specs.lemmas.PlanStops.{stops_here, stops_nowhere}
 use Rattle.flux_engine.specs.declared.plan.Plan.{Plan}
 
 module _ (plan : Plan) (of : PartOf) (format : Format) (left left' image image' notes notes' : Option (List ℕ)) (totals : Totals) where
-  stopped : (fault : PlanFault) (e : EndedInStream plan of format left left' image image' notes notes' totals (Err fault)) (later : List ℕ) (q block : ℕ) (at : StreamFault)
+  stopped : (fault : Stopped RefusedCapture) (e : EndedInStream plan of format left left' image image' notes notes' totals (Err fault)) (later : List ℕ) (q block : ℕ) (at : StreamFault)
       → StoppedAt plan e.number (e.taken ++ later) later q block at
       → (o : Planned) × WrotePlanned plan of format (e.taken ++ later) image image' notes notes' o
       × (o.stop ≡ Some (record { track = e.number; capture = q; block = block; fault = at }))
   stopped fault e later q block at s =
       let x : List ℕ = e.taken ++ later in
-      let stop : PlanStop = record { track = e.number; capture = q; block = block; fault = at } in (
+      let stop : RefusedCapture = record { track = e.number; capture = q; block = block; fault = at } in (
         report_over e.parts (Some stop),
         record {
           decoded = record {
@@ -47,7 +48,7 @@ module _ (plan : Plan) (of : PartOf) (format : Format) (left left' image image' 
         refl,
       )
 
-  planned_fault : (fault : PlanFault) → EndedInStream plan of format left left' image image' notes notes' totals (Err fault)
+  planned_fault : (fault : Stopped RefusedCapture) → EndedInStream plan of format left left' image image' notes notes' totals (Err fault)
       → DecodesPlanned plan of format left left' image image' notes notes' (Err fault)
   planned_fault ReadFault e = record {
     taken = e.taken;
@@ -58,13 +59,13 @@ module _ (plan : Plan) (of : PartOf) (format : Format) (left left' image image' 
         (w.0, record { track = e.number; capture = at.0; block = at.1; fault = Truncated }, w.1, w.2, refl);
     ended = e.stopped.ended;
   }
-  planned_fault (Refused track capture block fault) e = record {
+  planned_fault (Refused stop) e = record {
     taken = e.taken;
     consumed = e.stopped.consumed;
     says = λ (later : List ℕ) only.
         let at = e.stopped.says later only in
-        let w = stopped (Refused track capture block fault) e later capture block fault at.1 in
-        subst (λ (t : ℕ). SaysOfPlanned plan of format (e.taken ++ later) later image image' notes notes' (Err (Refused t capture block fault))) (sym at.0)
+        let w = stopped (Refused stop) e later stop.capture stop.block stop.fault at.1 in
+        subst (λ (t : ℕ). SaysOfPlanned plan of format (e.taken ++ later) later image image' notes notes' (Err (Refused (record stop { track = t })))) (sym at.0)
         (w.0, w.1, w.2, at.1.taken);
     ended = e.stopped.ended;
   }
@@ -85,7 +86,7 @@ module _ (plan : Plan) (of : PartOf) (format : Format) (left left' image image' 
     consumed = h.come.consumed;
     says = λ (later : List ℕ) only.
         let x : List ℕ = h.taken ++ later in
-        let notes_are : lines h.parts ++ total_text totals ≡ (report_over {S = PlanStop} h.parts None).notes =
+        let notes_are : lines h.parts ++ total_text totals ≡ (report_over {S = RefusedCapture} h.parts None).notes =
         ap (λ (t : Totals). lines h.parts ++ total_text t) h.totals_are in (
           report_over h.parts None,
           record {
@@ -112,12 +113,11 @@ module _ (plan : Plan) (of : PartOf) (format : Format) (left left' image image' 
     consumed = h.come.consumed;
     says = λ (later : List ℕ) only. inr (record {
       parts = h.parts;
-      each = h.each later;
+      are = (h.each later, subst (λ (m : ℕ). IsTakenBehind (h.taken ++ later) later (m * plan.captures) 4096) (sym h.many) (all_taken later));
       many = h.many;
       image_grew = h.image_grew;
       notes_grew = subst (AppendsAndPart notes notes' (lines h.parts)) (ap total_text h.totals_are)
           (k, within, Appends-trans notes nmid notes' (lines h.parts) (take k (total_text totals)) h.notes_grew then);
-      taken = subst (λ (m : ℕ). IsTakenBehind (h.taken ++ later) later (m * plan.captures) 4096) (sym h.many) (all_taken later);
     });
     ended = λ cannot. absurd cannot;
   }
@@ -128,18 +128,18 @@ module _ (plan : Plan) (of : PartOf) (format : Format) (left left' image image' 
   ends_in_part PartImageFault d = d
   ends_in_part PartNotesFault d = d
 
-  pub ends_in_stream : (fault : PlanFault) → EndedInStream plan of format left left' image image' notes notes' totals (Err fault)
+  pub ends_in_stream : (fault : Stopped RefusedCapture) → EndedInStream plan of format left left' image image' notes notes' totals (Err fault)
       → EndsInTracks plan of format left left' image image' notes notes' totals (Err fault)
   ends_in_stream ReadFault e = e
   ends_in_stream ImageFault e = absurd (e.stopped.says [] (λ cannot. absurd cannot))
   ends_in_stream NotesFault e = absurd (e.stopped.says [] (λ cannot. absurd cannot))
-  ends_in_stream (Refused track capture block fault) e = e
+  ends_in_stream (Refused stop) e = e
 
   -- where the tracks end with a fault, the disk does
-  pub planned_ends : (fault : PlanFault) → EndsInTracks plan of format left left' image image' notes notes' totals (Err fault)
+  pub planned_ends : (fault : Stopped RefusedCapture) → EndsInTracks plan of format left left' image image' notes notes' totals (Err fault)
       → DecodesPlanned plan of format left left' image image' notes notes' (Err fault)
   planned_ends ReadFault e = planned_fault plan of format left left' image image' notes notes' totals ReadFault e
   planned_ends ImageFault e = e
   planned_ends NotesFault e = e
-  planned_ends (Refused track capture block fault) e =
-      planned_fault plan of format left left' image image' notes notes' totals (Refused track capture block fault) e
+  planned_ends (Refused stop) e =
+      planned_fault plan of format left left' image image' notes notes' totals (Refused stop) e

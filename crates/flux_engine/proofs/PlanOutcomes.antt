@@ -11,7 +11,8 @@ use Rattle.turn_merge.specs.declared.clock.Clock.{Clock}
 use Rattle.flux_engine.specs.Disks.{report_over}
 use Rattle.flux_engine.specs.Captured.{AreReadingsBy, AreReadingsOf}
 use Rattle.flux_engine.specs.PlanLaws.{OnePlanned, ReadingsInPlansAreOne}
-use Rattle.flux_engine.specs.Plans.{IsBefore, IsFirstFault, PlanStop, StopsAt, Streams, planned_count}
+use Rattle.flux_engine.specs.declared.fault.RefusedCapture.{RefusedCapture}
+use Rattle.flux_engine.specs.Plans.{IsBefore, IsFirstFault, StopsAt, Streams, planned_count}
 use Rattle.flux_engine.specs.Recordings.{cells_by, track_at}
 use Rattle.flux_engine.specs.Tracks.{Found, TrackPart, readings_in}
 use Rattle.flux_engine.specs.declared.plan.Clocks.{Clocks}
@@ -48,13 +49,13 @@ ordered n q m p =
     ]
 
 module _ (plan : Plan) (format : Format) (streams : Streams) where
-  stop-same : (a b : PlanStop) → IsFirstFault plan format streams a → IsFirstFault plan format streams b → a ≡ b
+  stop-same : (a b : RefusedCapture) → IsFirstFault plan format streams a → IsFirstFault plan format streams b → a ≡ b
   stop-same a b f g =
       elim (ordered a.track a.capture b.track b.capture) [
         | inl (inl before) ↦ absurd (none_some (streams a.track a.capture).fault (a.block, a.fault) (g.clean a.track a.capture f.few before) f.is)
         | inl (inr before) ↦ absurd (none_some (streams b.track b.capture).fault (b.block, b.fault) (f.clean b.track b.capture g.few before) g.is)
         | inr (track, capture) ↦
-            let of : ℕ → ℕ → ℕ × StreamFault → PlanStop = λ n q at. record { track = n; capture = q; block = at.0; fault = at.1 } in
+            let of : ℕ → ℕ → ℕ × StreamFault → RefusedCapture = λ n q at. record { track = n; capture = q; block = at.0; fault = at.1 } in
             let there : (streams b.track b.capture).fault ≡ Some (a.block, a.fault) =
             subst (λ (n : ℕ). (streams n b.capture).fault ≡ Some (a.block, a.fault)) track
             (subst (λ (q : ℕ). (streams a.track q).fault ≡ Some (a.block, a.fault)) capture f.is) in
@@ -62,7 +63,7 @@ module _ (plan : Plan) (format : Format) (streams : Streams) where
             ap (λ (n : ℕ). of n a.capture (a.block, a.fault)) track ∙ ap (λ (q : ℕ). of b.track q (a.block, a.fault)) capture ∙ ap (of b.track b.capture) at
       ]
 
-  stops-same : (a b : Option PlanStop) → StopsAt plan format streams a → StopsAt plan format streams b → a ≡ b
+  stops-same : (a b : Option RefusedCapture) → StopsAt plan format streams a → StopsAt plan format streams b → a ≡ b
   stops-same None None f g = refl
   stops-same None (Some b) f g = absurd (none_some (streams b.track b.capture).fault (b.block, b.fault) (f b.track b.capture g.low g.few) g.is)
   stops-same (Some a) None f g = absurd (none_some (streams a.track a.capture).fault (a.block, a.fault) (g a.track a.capture f.low f.few) f.is)

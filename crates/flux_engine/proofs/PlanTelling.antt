@@ -16,7 +16,7 @@ use Rattle.flux_engine.specs.lemmas.ReadLaws.{Rest, reads_more, rest_of, some_sa
 use Rattle.flux_engine.specs.PlanAnswers.{DecodesPlanned, IsOfBytesTaken, SaysOfPlanned, SaysOfPlannedInput, PlanAnswer}
 use Rattle.flux_engine.specs.PlanProgress.{HasCome}
 use Rattle.flux_engine.specs.Plans.{EndsInPlan, PartOf}
-use Rattle.flux_engine.specs.declared.fault.PlanFault.TheVariants.{ReadFault, ImageFault, NotesFault, Refused}
+use Rattle.flux_engine.specs.declared.fault.Stopped.TheVariants.{ReadFault, ImageFault, NotesFault, Refused}
 use Rattle.flux_engine.specs.lemmas.PlanStops.{stops_here}
 use Rattle.flux_engine.specs.declared.plan.Plan.{Plan}
 
@@ -38,9 +38,9 @@ module _ (plan : Plan) (of : PartOf) (format : Format) (x : List ℕ) (left left
 
   pub says_of_planned : (answer : PlanAnswer) → Decodes answer → SaysOfPlannedInput plan of format x left' image image' notes notes' answer
   says_of_planned (Ok totals) d = (let r = rest_is d.taken d.consumed in (r.rest, r.left, whole (Ok totals) d r (λ cannot. absurd cannot)))
-  says_of_planned (Err (Refused track capture block fault)) d =
+  says_of_planned (Err (Refused stop)) d =
       let r = rest_is d.taken d.consumed in
-      (r.rest, r.left, whole (Err (Refused track capture block fault)) d r (λ truncated. at_end x d.taken left' (d.ended truncated) r))
+      (r.rest, r.left, whole (Err (Refused stop)) d r (λ truncated. at_end x d.taken left' (d.ended truncated) r))
   says_of_planned (Err ReadFault) d =
       let r = rest_is d.taken d.consumed in (
         d.taken,

@@ -17,7 +17,8 @@ use Rattle.sector_images.specs.Places.{tracks}
 use Rattle.sector_images.specs.declared.format.Format.{Format}
 use Rattle.sector_report.specs.declared.totals.Totals.{Totals}
 use Rattle.flux_engine.specs.Answers.{IsTakenBehind, IsTrackStream, ReadsStream}
-use Rattle.flux_engine.specs.LoopProgress.{AreWhole, EndedBySink, EndedByStream, EndsLoop, HasWritten, WritesFront, seen_at, seen_next, streams_over}
+use Rattle.flux_engine.specs.Cut.{WritesFront}
+use Rattle.flux_engine.specs.LoopProgress.{AreWhole, EndedBySink, EndedByStream, EndsLoop, HasWritten, seen_at, seen_next, streams_over}
 use Rattle.flux_engine.specs.PlanAnswers.{DecodesPlanned, MOST_OF_STREAM, most_of_track, of_part, of_stream}
 use Rattle.flux_engine.specs.PlanProgress.{EndedInStream, EndsInTracks, HasCome, HasPlanned, StoppedAt, WasStopped}
 use Rattle.flux_engine.specs.Plans.{ArePlannedParts, PartOf, Seen, seen, streams_in}
@@ -26,8 +27,9 @@ use Rattle.flux_engine.specs.SourceStreams.{AreFirst, HaveCome, HaveEnded, WasNe
 use Rattle.flux_engine.specs.Streams.{behind, stream_at}
 use Rattle.flux_engine.specs.Tracks.{TrackPart}
 use Rattle.kryo_stream.specs.declared.fault.CaptureFault.{CaptureFault}
-use Rattle.kryo_stream.specs.declared.fault.CaptureFault.TheVariants.{ReadFault as UnreadCapture, Refused as RefusedCapture}
-use Rattle.flux_engine.specs.declared.fault.PlanFault.{PlanFault}
+use Rattle.kryo_stream.specs.declared.fault.CaptureFault.TheVariants.{ReadFault as UnreadCapture, Refused as RefusedStream}
+use Rattle.flux_engine.specs.declared.fault.RefusedCapture.{RefusedCapture}
+use Rattle.flux_engine.specs.declared.fault.Stopped.{Stopped}
 use Rattle.flux_engine.specs.declared.plan.Plan.{Plan}
 use Rattle.flux_engine.specs.declared.track_part.PartFault.{PartFault}
 use Rattle.flux_engine.specs.declared.track_part.PartFault.TheVariants.{ImageFault, NotesFault}
@@ -102,7 +104,7 @@ module _ (plan : Plan) (format : Format) (start mid now : SourceMoment) (held : 
     ended = r.ended;
     needed = needed_next;
   }
-  ended_next held' times' indexes' (RefusedCapture block fault) r = record {
+  ended_next held' times' indexes' (RefusedStream block fault) r = record {
     taken = c.taken ++ r.taken;
     consumed = Consumes-trans start.left mid.left now.left c.taken r.taken c.come.consumed r.consumed;
     are = first-longer c.taken r.taken streams c.are;
@@ -139,9 +141,9 @@ module _ (plan : Plan) (format : Format) (start now : SourceMoment) (n q : ℕ) 
     says = λ (later : List ℕ) only. let s = f.says later only in (q, s.0, stopped_at UnreadCapture f later s.0 Truncated s.1);
     ended = λ cannot. absurd cannot;
   }
-  was_stopped (RefusedCapture block fault) f = record {
+  was_stopped (RefusedStream block fault) f = record {
     consumed = f.consumed;
-    says = λ (later : List ℕ) only. (refl, stopped_at (RefusedCapture block fault) f later block fault (f.says later only));
+    says = λ (later : List ℕ) only. (refl, stopped_at (RefusedStream block fault) f later block fault (f.says later only));
     ended = f.ended;
   }
 
@@ -164,14 +166,14 @@ module _ (plan : Plan) (of : PartOf) (format : Format) (start now : SourceMoment
         sound = h.sound;
       }
 
-  pub has_planned_all : (totals : Totals) (answer : Result (Unit {0}) PlanFault)
+  pub has_planned_all : (totals : Totals) (answer : Result (Unit {0}) (Stopped RefusedCapture))
       → OnOk answer (HasWritten plan of format (HaveCome plan format start now) image image' notes notes' room (length (tracks format)) totals)
       → OnOk answer (HasPlanned plan of format start.left now.left image image' notes notes' room (length (tracks format)) totals)
   has_planned_all totals (Ok u) h = has_planned (length (tracks format)) totals h
   has_planned_all totals (Err fault) h = tt
 
   -- a stream ended the disk
-  by_stream : (totals : Totals) (fault : PlanFault) → EndedByStream plan of format (HaveEnded plan format start now) image image' notes notes' totals fault
+  by_stream : (totals : Totals) (fault : Stopped RefusedCapture) → EndedByStream plan of format (HaveEnded plan format start now) image image' notes notes' totals fault
       → EndedInStream plan of format start.left now.left image image' notes notes' totals (Err fault)
   by_stream totals fault e =
       let t = e.ended in
@@ -179,7 +181,7 @@ module _ (plan : Plan) (of : PartOf) (format : Format) (start now : SourceMoment
       let size : length came ≡ e.number * plan.captures + t.capture =
       length-append e.streams t.more ∙ ap (λ (k : ℕ). k + length t.more) e.all ∙ ap (λ (k : ℕ). e.number * plan.captures + k) t.many_more in
       let before : length e.parts * plan.captures ≤ length e.streams = omega (arith, e.all, ap (λ (k : ℕ). k * plan.captures) e.many) in
-      subst (λ (f : PlanFault). EndedInStream plan of format start.left now.left image image' notes notes' totals (Err f)) (sym t.is)
+      subst (λ (f : Stopped RefusedCapture). EndedInStream plan of format start.left now.left image image' notes notes' totals (Err f)) (sym t.is)
       (record {
         number = e.number;
         low = e.low;
@@ -196,7 +198,7 @@ module _ (plan : Plan) (of : PartOf) (format : Format) (start now : SourceMoment
 
   -- a sink failed
   module _ (limit : StreamsKeepTheLimit) (padding : (x : List ℕ) → IsPadding x (padding_of x)) where
-    module _ (fault : PlanFault) (e : EndedBySink plan of format (HaveCome plan format start now) image image' notes notes' room fault) where
+    module _ (fault : Stopped RefusedCapture) (e : EndedBySink plan of format (HaveCome plan format start now) image image' notes notes' room fault) where
       taken_of_track : (later : List ℕ) → IsTakenBehind (e.came.taken ++ later) later (length e.parts * plan.captures) (most_of_track plan)
       taken_of_track later =
           let x : List ℕ = e.came.taken ++ later in
@@ -217,53 +219,39 @@ module _ (plan : Plan) (of : PartOf) (format : Format) (start now : SourceMoment
       sink_failed ImageFault wrote = record {
         taken = e.came.taken;
         consumed = e.came.come.consumed;
-        says = λ (later : List ℕ) only. record {
-          parts = e.parts;
-          next = e.next;
-          each = each_part later;
-          many = e.low;
-          image_grew = wrote.0;
-          notes_grew = wrote.1;
-          taken = taken_of_track later;
-        };
+        says = λ (later : List ℕ) only.
+            record { parts = e.parts; next = e.next; are = (each_part later, taken_of_track later); few = e.low; wrote = wrote };
         ended = λ cannot. absurd cannot;
       }
       sink_failed NotesFault wrote = record {
         taken = e.came.taken;
         consumed = e.came.come.consumed;
-        says = λ (later : List ℕ) only. inl (record {
-          parts = e.parts;
-          next = e.next;
-          each = each_part later;
-          many = e.low;
-          image_grew = wrote.0;
-          notes_grew = wrote.1;
-          taken = taken_of_track later;
-        });
+        says = λ (later : List ℕ) only.
+            inl (record { parts = e.parts; next = e.next; are = (each_part later, taken_of_track later); few = e.low; wrote = wrote });
         ended = λ cannot. absurd cannot;
       }
 
     -- the loop ended with a fault
-    ends_in_tracks : (totals : Totals) (fault : PlanFault)
+    ends_in_tracks : (totals : Totals) (fault : Stopped RefusedCapture)
         → EndsLoop plan of format (HaveCome plan format start now) (HaveEnded plan format start now) image image' notes notes' room totals fault
         → EndsInTracks plan of format start.left now.left image image' notes notes' totals (Err fault)
     ends_in_tracks totals fault (inl e) = ends_in_stream plan of format start.left now.left image image' notes notes' totals fault (by_stream totals fault e)
     ends_in_tracks totals fault (inr e) =
-        subst (λ (f : PlanFault). EndsInTracks plan of format start.left now.left image image' notes notes' totals (Err f)) (sym e.is)
+        subst (λ (f : Stopped RefusedCapture). EndsInTracks plan of format start.left now.left image image' notes notes' totals (Err f)) (sym e.is)
         (ends_in_part plan of format start.left now.left image image' notes notes' totals e.cause (sink_failed fault e e.cause e.wrote))
 
-    pub ends_loop : (totals : Totals) (answer : Result (Unit {0}) PlanFault)
+    pub ends_loop : (totals : Totals) (answer : Result (Unit {0}) (Stopped RefusedCapture))
         → IfErr answer (EndsLoop plan of format (HaveCome plan format start now) (HaveEnded plan format start now) image image' notes notes' room totals)
         → OnErr answer (EndsInTracks plan of format start.left now.left image image' notes notes' totals answer)
     ends_loop totals (Ok u) e = tt
     ends_loop totals (Err fault) e = ends_in_tracks totals fault e
 
-  ended_needed : (totals : Totals) (fault : PlanFault)
+  ended_needed : (totals : Totals) (fault : Stopped RefusedCapture)
       → EndsLoop plan of format (HaveCome plan format start now) (HaveEnded plan format start now) image image' notes notes' room totals fault → WasNeeded plan format start now
   ended_needed totals fault (inl e) = e.ended.ended.needed
   ended_needed totals fault (inr e) = e.came.needed
 
-  pub all_needed : (totals : Totals) (answer : Result (Unit {0}) PlanFault)
+  pub all_needed : (totals : Totals) (answer : Result (Unit {0}) (Stopped RefusedCapture))
       → OnOk answer (HasWritten plan of format (HaveCome plan format start now) image image' notes notes' room (length (tracks format)) totals)
       → IfErr answer (EndsLoop plan of format (HaveCome plan format start now) (HaveEnded plan format start now) image image' notes notes' room totals)
       → WasNeeded plan format start now

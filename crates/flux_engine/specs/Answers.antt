@@ -10,7 +10,7 @@ use Rattle.kryo_stream.specs.declared.fault.StreamFault.TheVariants.{Truncated}
 use Rattle.flux_engine.specs.Streams.{behind, behind_stream}
 use Rattle.kryo_stream.specs.declared.fault.CaptureFault.{CaptureFault}
 use Rattle.kryo_stream.specs.declared.fault.CaptureFault.TheVariants.{ReadFault as UnreadCapture}
-use Rattle.kryo_stream.specs.declared.fault.CaptureFault.TheVariants.{Refused as RefusedCapture}
+use Rattle.kryo_stream.specs.declared.fault.CaptureFault.TheVariants.{Refused as RefusedStream}
 
 -- x begins with a stream of these transitions and index times, and this stands after it
 pub record IsTrackStream (x times' indexes' stays : List ℕ) : Type 0 where
@@ -24,19 +24,19 @@ CaptureAnswer = Result (Unit {0}) CaptureFault
 
 -- the answer for one stream says that the input ends inside a block
 abbrev pub IsTruncatedCapture : CaptureAnswer → Type 0
-IsTruncatedCapture (Err (RefusedCapture _ fault)) = fault ≡ Truncated
+IsTruncatedCapture (Err (RefusedStream _ fault)) = fault ≡ Truncated
 IsTruncatedCapture _ = ⊥
 
 -- it is right for the bytes at hand alone
 abbrev pub IsOfCaptureAtHand : CaptureAnswer → Type 0
-IsOfCaptureAtHand (Err (RefusedCapture _ fault)) = fault ≡ Truncated
+IsOfCaptureAtHand (Err (RefusedStream _ fault)) = fault ≡ Truncated
 IsOfCaptureAtHand (Err UnreadCapture) = Unit {0}
 IsOfCaptureAtHand (Ok _) = ⊥
 
 -- what it says of the input x
 abbrev pub SaysOfCapture : CaptureAnswer → (x times' indexes' stays : List ℕ) → Type 0
 SaysOfCapture (Ok _) x times' indexes' stays = IsTrackStream x times' indexes' stays
-SaysOfCapture (Err (RefusedCapture block fault)) x times' indexes' stays =
+SaysOfCapture (Err (RefusedStream block fault)) x times' indexes' stays =
     first_fault x ≡ Some (block, fault)
 SaysOfCapture (Err UnreadCapture) x times' indexes' stays =
     (block : ℕ) × (first_fault x ≡ Some (block, Truncated))

@@ -3,9 +3,9 @@ use Rattle.std.specs.Prelude.{Bool, true, false, Result, Ok, Err}
 use Rattle.flux_base.specs.Blames.{Blame, no_one, the_source, the_image, the_notes}
 use Rattle.kryo_stream.specs.declared.fault.CaptureFault.{CaptureFault}
 use Rattle.kryo_stream.specs.declared.fault.CaptureFault.TheVariants.{ReadFault as UnreadCapture}
-use Rattle.flux_engine.specs.declared.fault.PlanFault.{PlanFault}
-use Rattle.flux_engine.specs.declared.fault.PlanFault.TheVariants.{ReadFault, ImageFault}
-use Rattle.flux_engine.specs.declared.fault.PlanFault.TheVariants.{NotesFault}
+use Rattle.flux_engine.specs.declared.fault.Stopped.{Stopped}
+use Rattle.flux_engine.specs.declared.fault.Stopped.TheVariants.{ReadFault, ImageFault}
+use Rattle.flux_engine.specs.declared.fault.Stopped.TheVariants.{NotesFault}
 use Rattle.flux_engine.specs.declared.track_part.PartFault.{PartFault}
 use Rattle.flux_engine.specs.declared.track_part.PartFault.TheVariants.{ImageFault as PartImageFault}
 use Rattle.flux_engine.specs.declared.track_part.PartFault.TheVariants.{NotesFault as PartNotesFault}
@@ -23,14 +23,16 @@ part_blame (Ok _) = no_one
 part_blame (Err PartImageFault) = the_image
 part_blame (Err PartNotesFault) = the_notes
 
-abbrev pub plan_blame : {A : Type 0} → Result A PlanFault → Blame
-plan_blame (Err ReadFault) = the_source
-plan_blame (Err ImageFault) = the_image
-plan_blame (Err NotesFault) = the_notes
-plan_blame _ = no_one
+-- reading stopped, whatever it is that may be refused
+abbrev pub stop_blame : {A R : Type 0} → Result A (Stopped R) → Blame
+stop_blame (Err ReadFault) = the_source
+stop_blame (Err ImageFault) = the_image
+stop_blame (Err NotesFault) = the_notes
+stop_blame _ = no_one
 
--- the same of the sinks alone, where it is not known of what object the streams come
-abbrev pub sink_blame : {A : Type 0} → Result A PlanFault → Blame
+-- the same of the sinks alone, where it is not known of what object the streams come, or where
+-- none of its faults stops reading: a file that fails is told
+abbrev pub sink_blame : {A R : Type 0} → Result A (Stopped R) → Blame
 sink_blame (Err ImageFault) = the_image
 sink_blame (Err NotesFault) = the_notes
 sink_blame _ = no_one

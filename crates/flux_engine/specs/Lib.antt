@@ -9,6 +9,7 @@ pub mod Writing
 pub mod Disks
 pub mod Room
 pub mod Answers
+pub mod Cut
 pub mod Blamed
 pub mod Reading
 pub mod DiskLaws

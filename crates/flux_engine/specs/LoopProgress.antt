@@ -11,10 +11,10 @@ use Rattle.sector_report.specs.declared.totals.Totals.{Totals}
 use Rattle.turn_merge.specs.Book.{Knowledge, SameShape, StandsFor}
 use Rattle.turn_merge.specs.Others.{NotedOther, OthersKnown, OthersStandFor}
 use Rattle.turn_merge.specs.Readings.{NotedReading}
-use Rattle.flux_engine.specs.Answers.{AppendsAndPart}
 use Rattle.flux_engine.specs.Captured.{AppendsOthers, AppendsReadings, AreOthersOf, AreReadingsOf}
 use Rattle.flux_engine.specs.Captured.{count_of_clocks}
 use Rattle.flux_engine.specs.Counts.{AreOthersOver, lost_in, told_count, whole_count}
+use Rattle.flux_engine.specs.Cut.{WritesFront}
 use Rattle.flux_engine.specs.Disks.{images, lines, totals_over}
 use Rattle.flux_engine.specs.PlanAnswers.{of_part, of_stream}
 use Rattle.flux_engine.specs.Plans.{AreCaptures, AreOthersTo, ArePlannedParts, PartOf, Seen}
@@ -23,13 +23,13 @@ use Rattle.flux_engine.specs.Reading.{IsBounded}
 use Rattle.flux_engine.specs.Room.{MOST_READINGS, RoomState}
 use Rattle.flux_engine.specs.Tracks.{TrackPart}
 use Rattle.kryo_stream.specs.declared.fault.CaptureFault.{CaptureFault}
-use Rattle.flux_engine.specs.declared.fault.PlanFault.{PlanFault}
+use Rattle.flux_engine.specs.declared.fault.RefusedCapture.{RefusedCapture}
+use Rattle.flux_engine.specs.declared.fault.Stopped.{Stopped}
 use Rattle.flux_engine.specs.declared.gathered_track.PassedStream.{PassedStream}
 use Rattle.flux_engine.specs.declared.plan.Clocks.{Clocks}
 use Rattle.flux_engine.specs.declared.plan.Rule.{Rule}
 use Rattle.flux_engine.specs.declared.plan.Plan.{Plan}
 use Rattle.flux_engine.specs.declared.track_part.PartFault.{PartFault}
-use Rattle.flux_engine.specs.declared.track_part.PartFault.TheVariants.{ImageFault, NotesFault}
 use Rattle.flux_engine.specs.declared.track_streams.NextStream.{NextStream}
 use Rattle.flux_engine.specs.declared.track_streams.NextStream.TheVariants.{Read, PassedOver}
 
@@ -137,7 +137,7 @@ pub record HasGathered (plan : Plan) (format : Format) (n : ℕ)
 
 -- after the streams before, a capture of track number n ended the disk
 pub record EndedInTrack (plan : Plan) (n : ℕ) (Ended : List Seen → CaptureFault → Type 0)
-    (before : List Seen) (fault : PlanFault) : Type 0 where
+    (before : List Seen) (fault : Stopped RefusedCapture) : Type 0 where
   pub capture : ℕ
   pub few : capture < plan.captures
   pub more : List Seen
@@ -149,7 +149,7 @@ pub record EndedInTrack (plan : Plan) (n : ℕ) (Ended : List Seen → CaptureFa
 
 abbrev pub GathersTrack : Plan → Format → (n : ℕ) → (Came : List ℕ → Bool → List Seen → Type 0)
     → (Ended : List Seen → CaptureFault → Type 0) → (before : List Seen)
-    → RoomState → Result (Unit {0}) PlanFault → Type 0
+    → RoomState → Result (Unit {0}) (Stopped RefusedCapture) → Type 0
 GathersTrack plan format n Came Ended before room (Ok u) =
     HasGathered plan format n Came before room plan.captures
 GathersTrack plan format n Came Ended before room (Err fault) =
@@ -186,7 +186,7 @@ pub record HasWritten (plan : Plan) (of : PartOf) (format : Format)
 pub record EndedByStream (plan : Plan) (of : PartOf) (format : Format)
     (Ended : List Seen → CaptureFault → Type 0) (image image' notes notes' : Option (List ℕ))
     (totals : Totals)
-    (fault : PlanFault) : Type 0 where
+    (fault : Stopped RefusedCapture) : Type 0 where
   pub number : ℕ
   pub low : number < length (tracks format)
   pub streams : List Seen
@@ -199,20 +199,11 @@ pub record EndedByStream (plan : Plan) (of : PartOf) (format : Format)
   pub totals_are : totals ≡ totals_over parts
   pub ended : EndedInTrack plan number Ended streams fault
 
--- what was written of the tracks before, and of the next one, where a sink failed
-abbrev pub WritesFront : PartFault → List TrackPart → (next : TrackPart)
-    → (image image' notes notes' : Option (List ℕ)) → Type 0
-WritesFront ImageFault parts next image image' notes notes' =
-    AppendsAndPart image image' (images parts) next.image × Appends notes notes' (lines parts)
-WritesFront NotesFault parts next image image' notes notes' =
-    Appends image image' (images (parts ++ next ∷ []))
-    × AppendsAndPart notes notes' (lines parts) next.lines
-
 -- A sink failed in the track after those that were written whole. All captures of it came.
 pub record EndedBySink (plan : Plan) (of : PartOf) (format : Format)
     (Came : List ℕ → Bool → List Seen → Type 0) (image image' notes notes' : Option (List ℕ))
     (room : RoomState)
-    (fault : PlanFault) : Type 0 where
+    (fault : Stopped RefusedCapture) : Type 0 where
   pub streams : List Seen
   pub parts : List TrackPart
   pub next : TrackPart
@@ -229,7 +220,7 @@ pub record EndedBySink (plan : Plan) (of : PartOf) (format : Format)
 abbrev pub EndsLoop : Plan → PartOf → Format → (Came : List ℕ → Bool → List Seen → Type 0)
     → (Ended : List Seen → CaptureFault → Type 0) → (image image' notes notes' : Option (List ℕ))
     → RoomState
-    → Totals → PlanFault → Type 0
+    → Totals → Stopped RefusedCapture → Type 0
 EndsLoop plan of format Came Ended image image' notes notes' room totals fault =
     EndedByStream plan of format Ended image image' notes notes' totals fault
     ⊎ EndedBySink plan of format Came image image' notes notes' room fault

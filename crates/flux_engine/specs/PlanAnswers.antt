@@ -1,16 +1,15 @@
 -- What reading a disk by a plan may answer, and what that says of the input and
 -- of the bytes that were written.
-use Rattle.std.specs.Prelude.{◌≡◌, ◌<◌, ◌⊎◌, ℕ, ◌+◌, ◌*◌, Bool, List, [], ◌∷◌, ◌++◌, length, Option}
+use Rattle.std.specs.Prelude.{◌≡◌, ◌⊎◌, ℕ, ◌+◌, ◌*◌, Bool, List, [], ◌∷◌, ◌++◌, length, Option}
 use Rattle.std.specs.Prelude.{Some, None, Result, Ok, Err, OnOk}
 use Rattle.std.specs.Io.KnownBytes.{Appends, Consumes, IsAtEnd}
 use Rattle.flux_base.specs.declared.track.TrackId.{TrackId}
 use Rattle.turn_merge.specs.Book.{Knowledge}
 use Rattle.turn_merge.specs.Others.{NotedOther, OthersKnown}
 use Rattle.turn_merge.specs.Readings.{NotedReading}
-use Rattle.flux_engine.specs.Answers.{AppendsAndPart, CaptureAnswer, IsTakenBehind, ReadsStream}
+use Rattle.flux_engine.specs.Answers.{CaptureAnswer, IsTakenBehind, ReadsStream}
 use Rattle.flux_engine.specs.Captured.{AppendsOthers, AppendsReadings, AreOthersOf, AreReadingsOf}
-use Rattle.flux_engine.specs.Disks.{images, lines, totals_over}
-use Rattle.flux_engine.specs.Tracks.{TrackPart}
+use Rattle.flux_engine.specs.Cut.{CutInTotal, CutInTrack}
 use Rattle.flux_engine.specs.declared.track_part.PartFault.{PartFault}
 use Rattle.flux_engine.specs.declared.track_part.PartFault.TheVariants.{ImageFault as PartImageFault}
 use Rattle.flux_engine.specs.declared.track_part.PartFault.TheVariants.{NotesFault as PartNotesFault}
@@ -20,38 +19,39 @@ use Rattle.flux_engine.specs.declared.plan.Plan.{Plan}
 use Rattle.kryo_stream.specs.declared.fault.StreamFault.TheVariants.{Truncated}
 use Rattle.sector_images.specs.Places.{tracks}
 use Rattle.sector_images.specs.declared.format.Format.{Format}
-use Rattle.sector_report.specs.Lines.{total_text}
 use Rattle.sector_report.specs.declared.totals.Totals.{Totals}
-use Rattle.flux_engine.specs.Plans.{ArePlannedParts, IsPlanned, PartOf, PlanStop, Planned}
+use Rattle.flux_engine.specs.Plans.{ArePlannedParts, IsPlanned, PartOf, Planned}
 use Rattle.flux_engine.specs.Plans.{streams_in}
 use Rattle.kryo_stream.specs.declared.fault.CaptureFault.{CaptureFault}
 use Rattle.kryo_stream.specs.declared.fault.CaptureFault.TheVariants.{ReadFault as UnreadCapture}
-use Rattle.kryo_stream.specs.declared.fault.CaptureFault.TheVariants.{Refused as RefusedCapture}
-use Rattle.flux_engine.specs.declared.fault.PlanFault.{PlanFault}
-use Rattle.flux_engine.specs.declared.fault.PlanFault.TheVariants.{ReadFault, ImageFault}
-use Rattle.flux_engine.specs.declared.fault.PlanFault.TheVariants.{NotesFault, Refused}
+use Rattle.kryo_stream.specs.declared.fault.CaptureFault.TheVariants.{Refused as RefusedStream}
+use Rattle.flux_engine.specs.declared.fault.RefusedCapture.{RefusedCapture}
+use Rattle.flux_engine.specs.declared.fault.Stopped.{Stopped}
+use Rattle.flux_engine.specs.declared.fault.Stopped.TheVariants.{ReadFault, ImageFault}
+use Rattle.flux_engine.specs.declared.fault.Stopped.TheVariants.{NotesFault, Refused}
 
 abbrev pub PlanAnswer : Type 0
-PlanAnswer = Result Totals PlanFault
+PlanAnswer = Result Totals (Stopped RefusedCapture)
 
 -- the answer says that the input ends inside a block
-abbrev pub SaysTruncated : {A : Type 0} → Result A PlanFault → Type 0
-SaysTruncated (Err (Refused _ _ _ fault)) = fault ≡ Truncated
+abbrev pub SaysTruncated : {A : Type 0} → Result A (Stopped RefusedCapture) → Type 0
+SaysTruncated (Err (Refused stop)) = stop.fault ≡ Truncated
 SaysTruncated _ = ⊥
 
 -- the answer is right for the bytes at hand alone, whatever might have followed them: the input
 -- ends there, or the source failed
-abbrev pub IsOfBytesTaken : {A : Type 0} → Result A PlanFault → Type 0
-IsOfBytesTaken (Err (Refused _ _ _ fault)) = fault ≡ Truncated
+abbrev pub IsOfBytesTaken : {A : Type 0} → Result A (Stopped RefusedCapture) → Type 0
+IsOfBytesTaken (Err (Refused stop)) = stop.fault ≡ Truncated
 IsOfBytesTaken (Err ReadFault) = Unit {0}
 IsOfBytesTaken _ = ⊥
 
 -- the fault of a capture of a track, and that of a sink, among those of a disk
-abbrev pub of_stream : (track capture : ℕ) → CaptureFault → PlanFault
+abbrev pub of_stream : (track capture : ℕ) → CaptureFault → Stopped RefusedCapture
 of_stream track capture UnreadCapture = ReadFault
-of_stream track capture (RefusedCapture block fault) = Refused track capture block fault
+of_stream track capture (RefusedStream block fault) =
+    Refused (record { track = track; capture = capture; block = block; fault = fault })
 
-abbrev pub of_part : PartFault → PlanFault
+abbrev pub of_part : {R : Type 0} → PartFault → Stopped R
 of_part PartImageFault = ImageFault
 of_part PartNotesFault = NotesFault
 
@@ -89,40 +89,25 @@ pub record WrotePlanned (plan : Plan) (of : PartOf) (format : Format) (x : List 
   pub image_grew : Appends image image' o.image
   pub notes_grew : Appends notes notes' o.notes
 
--- the lines of the first tracks were written, and their parts of the image with a part of
--- the next that is shorter than it
-pub record PlanStoppedInImage (plan : Plan) (of : PartOf) (format : Format) (x later : List ℕ)
-    (image image' notes notes' : Option (List ℕ)) : Type 0 where
-  pub parts : List TrackPart
-  pub next : TrackPart
-  pub each : ArePlannedParts plan of format (streams_in plan x) (parts ++ next ∷ [])
-  pub many : length parts < length (tracks format)
-  pub image_grew : AppendsAndPart image image' (images parts) next.image
-  pub notes_grew : Appends notes notes' (lines parts)
-  pub taken : IsTakenBehind x later (length parts * plan.captures) (most_of_track plan)
+-- a sink failed in a track, of which all captures were taken
+abbrev pub PlanCutInTrack : PartFault → Plan → PartOf → Format → (x later : List ℕ)
+    → (image image' notes notes' : Option (List ℕ)) → Type 0
+PlanCutInTrack cause plan of format x later =
+    CutInTrack
+    (λ parts next.
+    ArePlannedParts plan of format (streams_in plan x) (parts ++ next ∷ [])
+    × IsTakenBehind x later (length parts * plan.captures) (most_of_track plan))
+    (length (tracks format)) cause
 
--- the lines of the first tracks were written, with a part of the lines of the next that is shorter
--- than they are, and the parts of the image of all these tracks
-pub record PlanStoppedInLines (plan : Plan) (of : PartOf) (format : Format) (x later : List ℕ)
-    (image image' notes notes' : Option (List ℕ)) : Type 0 where
-  pub parts : List TrackPart
-  pub next : TrackPart
-  pub each : ArePlannedParts plan of format (streams_in plan x) (parts ++ next ∷ [])
-  pub many : length parts < length (tracks format)
-  pub image_grew : Appends image image' (images (parts ++ next ∷ []))
-  pub notes_grew : AppendsAndPart notes notes' (lines parts) next.lines
-  pub taken : IsTakenBehind x later (length parts * plan.captures) (most_of_track plan)
-
--- all sector lines and the whole image were written, and a part of the
--- total line that is shorter than it
-pub record PlanStoppedInTotal (plan : Plan) (of : PartOf) (format : Format) (x later : List ℕ)
-    (image image' notes notes' : Option (List ℕ)) : Type 0 where
-  pub parts : List TrackPart
-  pub each : ArePlannedParts plan of format (streams_in plan x) parts
-  pub many : length parts ≡ length (tracks format)
-  pub image_grew : Appends image image' (images parts)
-  pub notes_grew : AppendsAndPart notes notes' (lines parts) (total_text (totals_over parts))
-  pub taken : IsTakenBehind x later (length parts * plan.captures) 4096
+-- the sink of the notes failed behind all tracks
+abbrev pub PlanCutInTotal : Plan → PartOf → Format → (x later : List ℕ)
+    → (image image' notes notes' : Option (List ℕ)) → Type 0
+PlanCutInTotal plan of format x later =
+    CutInTotal
+    (λ parts.
+    ArePlannedParts plan of format (streams_in plan x) parts
+    × IsTakenBehind x later (length parts * plan.captures) 4096)
+    (length (tracks format))
 
 -- What the answer says of the input x, which has bytes `later` that were not taken.
 abbrev pub SaysOfPlanned : Plan → PartOf → Format → (x later : List ℕ)
@@ -131,19 +116,18 @@ SaysOfPlanned plan of format x later image image' notes notes' (Ok totals) =
     (o : Planned) × WrotePlanned plan of format x image image' notes notes' o × (o.stop ≡ None)
     × (totals ≡ o.totals)
     × IsTakenBehind x later (length (tracks format) * plan.captures) 4096
-SaysOfPlanned plan of format x later image image' notes notes'
-    (Err (Refused track capture block fault)) =
+SaysOfPlanned plan of format x later image image' notes notes' (Err (Refused stop)) =
     (o : Planned) × WrotePlanned plan of format x image image' notes notes' o
-    × (o.stop ≡ Some (record { track = track; capture = capture; block = block; fault = fault }))
-    × IsTakenBehind x later (track * plan.captures + capture) MOST_OF_STREAM
+    × (o.stop ≡ Some stop)
+    × IsTakenBehind x later (stop.track * plan.captures + stop.capture) MOST_OF_STREAM
 SaysOfPlanned plan of format x later image image' notes notes' (Err ReadFault) =
-    (o : Planned) × (stop : PlanStop) × WrotePlanned plan of format x image image' notes notes' o
+    (o : Planned) × (stop : RefusedCapture) × WrotePlanned plan of format x image image' notes notes' o
     × (o.stop ≡ Some stop) × (stop.fault ≡ Truncated)
 SaysOfPlanned plan of format x later image image' notes notes' (Err ImageFault) =
-    PlanStoppedInImage plan of format x later image image' notes notes'
+    PlanCutInTrack PartImageFault plan of format x later image image' notes notes'
 SaysOfPlanned plan of format x later image image' notes notes' (Err NotesFault) =
-    PlanStoppedInLines plan of format x later image image' notes notes'
-    ⊎ PlanStoppedInTotal plan of format x later image image' notes notes'
+    PlanCutInTrack PartNotesFault plan of format x later image image' notes notes'
+    ⊎ PlanCutInTotal plan of format x later image image' notes notes'
 
 -- A call that reads a disk from a fresh room: it took these bytes, and what it says is right
 -- whatever follows them, unless it is of them alone.
@@ -169,5 +153,5 @@ SaysOfPlannedInput plan of format x left' image image' notes notes' answer =
 -- the whole input was decoded, or a stream of it has a fault
 abbrev pub IsFinished : PlanAnswer → Type 0
 IsFinished (Ok _) = Unit {0}
-IsFinished (Err (Refused _ _ _ _)) = Unit {0}
+IsFinished (Err (Refused _)) = Unit {0}
 IsFinished (Err _) = ⊥

@@ -18,9 +18,10 @@ use Rattle.flux_engine.specs.PlanAnswers.{DecodesPlanned, IsOfBytesTaken, SaysTr
 use Rattle.flux_engine.specs.PlanAnswers.{MOST_OF_STREAM}
 use Rattle.flux_engine.specs.Plans.{ArePlannedParts, PartOf, streams_in}
 use Rattle.flux_engine.specs.declared.plan.Plan.{Plan}
-use Rattle.flux_engine.specs.declared.fault.PlanFault.{PlanFault}
-use Rattle.flux_engine.specs.declared.fault.PlanFault.TheVariants.{ImageFault, NotesFault}
-use Rattle.flux_engine.specs.declared.fault.PlanFault.TheVariants.{ReadFault, Refused}
+use Rattle.flux_engine.specs.declared.fault.RefusedCapture.{RefusedCapture}
+use Rattle.flux_engine.specs.declared.fault.Stopped.{Stopped}
+use Rattle.flux_engine.specs.declared.fault.Stopped.TheVariants.{ImageFault, NotesFault}
+use Rattle.flux_engine.specs.declared.fault.Stopped.TheVariants.{ReadFault, Refused}
 
 -- The first m streams of an input were read, and none has a fault: these bytes were taken, and
 -- those behind the streams are in hand.
@@ -40,9 +41,10 @@ pub record StoppedAt (plan : Plan) (n : ℕ) (x later : List ℕ) (q block : ℕ
   pub is : first_fault (stream_at x (n * plan.captures + q)) ≡ Some (block, fault)
   pub taken : IsTakenBehind x later (n * plan.captures + q) MOST_OF_STREAM
 
-abbrev pub SaysOfStop : Plan → (n : ℕ) → Result (Unit {0}) PlanFault → (x later : List ℕ) → Type 0
-SaysOfStop plan n (Err (Refused track capture block fault)) x later =
-    (track ≡ n) × StoppedAt plan n x later capture block fault
+abbrev pub SaysOfStop : Plan → (n : ℕ) → Result (Unit {0}) (Stopped RefusedCapture)
+    → (x later : List ℕ) → Type 0
+SaysOfStop plan n (Err (Refused stop)) x later =
+    (stop.track ≡ n) × StoppedAt plan n x later stop.capture stop.block stop.fault
 SaysOfStop plan n (Err ReadFault) x later =
     (q block : ℕ) × StoppedAt plan n x later q block Truncated
 SaysOfStop plan n _ x later = ⊥
@@ -50,7 +52,7 @@ SaysOfStop plan n _ x later = ⊥
 -- The reading of a track's captures ended with a fault: these bytes were taken, and what the answer
 -- says is right whatever follows them, unless it is of them alone.
 pub record WasStopped (plan : Plan) (n : ℕ) (left left' : Option (List ℕ)) (taken : List ℕ)
-    (answer : Result (Unit {0}) PlanFault) : Type 0 where
+    (answer : Result (Unit {0}) (Stopped RefusedCapture)) : Type 0 where
   pub consumed : Consumes left left' taken
   pub says : (later : List ℕ) → (IsOfBytesTaken answer → later ≡ [])
       → SaysOfStop plan n answer (taken ++ later) later
@@ -76,7 +78,7 @@ pub record HasPlanned (plan : Plan) (of : PartOf) (format : Format)
 -- of which these are the totals.
 pub record EndedInStream (plan : Plan) (of : PartOf) (format : Format)
     (left left' image image' notes notes' : Option (List ℕ)) (totals : Totals)
-    (answer : Result (Unit {0}) PlanFault) : Type 0 where
+    (answer : Result (Unit {0}) (Stopped RefusedCapture)) : Type 0 where
   pub number : ℕ
   pub low : number < length (tracks format)
   pub taken : List ℕ
@@ -93,7 +95,7 @@ pub record EndedInStream (plan : Plan) (of : PartOf) (format : Format)
 -- those that were written whole.
 abbrev pub EndsInTracks : Plan → PartOf → Format
     → (left left' image image' notes notes' : Option (List ℕ)) → Totals
-    → Result (Unit {0}) PlanFault → Type 0
+    → Result (Unit {0}) (Stopped RefusedCapture) → Type 0
 EndsInTracks plan of format left left' image image' notes notes' totals (Err ImageFault) =
     DecodesPlanned plan of format left left' image image' notes notes' (Err ImageFault)
 EndsInTracks plan of format left left' image image' notes notes' totals (Err NotesFault) =

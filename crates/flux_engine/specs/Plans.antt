@@ -17,6 +17,7 @@ use Rattle.flux_engine.specs.Disks.{DiskReport, part_at, report_over}
 use Rattle.flux_engine.specs.Recordings.{track_at}
 use Rattle.flux_engine.specs.Streams.{stream_at}
 use Rattle.flux_engine.specs.Tracks.{TrackNotes, TrackPart, track_notes}
+use Rattle.flux_engine.specs.declared.fault.RefusedCapture.{RefusedCapture}
 use Rattle.flux_engine.specs.declared.gathered_track.PassedStream.{PassedStream}
 use Rattle.flux_engine.specs.declared.plan.Clocks.TheVariants.{Both, FollowingAlone}
 use Rattle.flux_engine.specs.declared.plan.Plan.{Plan}
@@ -114,14 +115,6 @@ abbrev pub ArePlannedParts : Plan → PartOf → Format → Streams → List Tra
 ArePlannedParts plan of format streams parts =
     (n : ℕ) → n < length parts → IsPlannedPart plan of format streams n (part_at parts n)
 
--- the number of a track, that of a capture of it, the number of a block in
--- its stream, and the fault there
-pub record PlanStop : Type 0 where
-  pub track : ℕ
-  pub capture : ℕ
-  pub block : ℕ
-  pub fault : StreamFault
-
 -- a capture of a track is read before another
 abbrev pub IsBefore : (track capture later_track later_capture : ℕ) → Type 0
 IsBefore track capture later_track later_capture =
@@ -129,7 +122,7 @@ IsBefore track capture later_track later_capture =
 
 -- the first of the streams that has a fault, and that fault
 pub record IsFirstFault (plan : Plan) (format : Format) (streams : Streams)
-    (stop : PlanStop) : Type 0 where
+    (stop : RefusedCapture) : Type 0 where
   pub low : stop.track < length (tracks format)
   pub few : stop.capture < plan.captures
   pub clean : (n q : ℕ) → q < plan.captures → IsBefore n q stop.track stop.capture
@@ -137,19 +130,19 @@ pub record IsFirstFault (plan : Plan) (format : Format) (streams : Streams)
   pub is : (streams stop.track stop.capture).fault ≡ Some (stop.block, stop.fault)
 
 -- where reading stops: there, or nowhere
-abbrev pub StopsAt : Plan → Format → Streams → Option PlanStop → Type 0
+abbrev pub StopsAt : Plan → Format → Streams → Option RefusedCapture → Type 0
 StopsAt plan format streams (Some stop) = IsFirstFault plan format streams stop
 StopsAt plan format streams None =
     (n q : ℕ) → n < length (tracks format) → q < plan.captures → (streams n q).fault ≡ None
 
 -- how many tracks are decoded: all before that of the stop, or all
-abbrev pub planned_count : Format → Option PlanStop → ℕ
+abbrev pub planned_count : Format → Option RefusedCapture → ℕ
 planned_count format (Some stop) = stop.track
 planned_count format None = length (tracks format)
 
 -- a disk that is read by a plan is stopped by a stream of a capture
 abbrev pub Planned : Type 0
-Planned = DiskReport PlanStop
+Planned = DiskReport RefusedCapture
 
 -- what these streams come to: all tracks before that of the first
 -- stream with a fault, or all tracks
@@ -164,7 +157,7 @@ pub record IsPlanned (plan : Plan) (of : PartOf) (format : Format) (streams : St
 -- the streams go on after these bytes: they end inside a block, and no stream before has a fault
 abbrev pub EndsInPlan : Plan → Format → List ℕ → Type 0
 EndsInPlan plan format x =
-    (stop : PlanStop) × IsFirstFault plan format (streams_in plan x) stop × (stop.fault ≡ Truncated)
+    (stop : RefusedCapture) × IsFirstFault plan format (streams_in plan x) stop × (stop.fault ≡ Truncated)
 
 -- the plan by which a disk is decoded: one stream of each track, by the clock that follows the
 -- drive, and lines that name no source

@@ -37,7 +37,7 @@ pub use capture::{
 };
 pub use disk_recordings::{Sectors, sectors_of};
 pub use disk_streams::{fill, write_disk};
-pub use fault::PlanFault;
+pub use fault::{RefusedCapture, Stopped};
 pub use gathered_track::{Gathered, PassedStream, PassedStreams};
 pub use gathering::{note_reading, place_of};
 pub use kryo_stream::CaptureFault;

@@ -4,7 +4,7 @@ ghost use Rattle.std.specs.Prelude.{◌≡◌, ◌≤◌, ℕ, List, Some, lengt
 ghost use Rattle.flux_base.specs.Blames.{CountsBy};
 ghost use Rattle.flux_base.specs.World.{counts_at, sinks_counts};
 ghost use Rattle.flux_engine.specs.Answers.{Stayed};
-ghost use Rattle.flux_engine.specs.Blamed.{plan_blame, sink_blame};
+ghost use Rattle.flux_engine.specs.Blamed.{sink_blame, stop_blame};
 ghost use Rattle.flux_engine.specs.Counts.{AreCountsBelow};
 ghost use Rattle.flux_engine.specs.Disks.{no_totals};
 ghost use Rattle.flux_engine.specs.LoopProgress.{EndsLoop, HasWritten};
@@ -19,7 +19,7 @@ ghost use Rattle.kryo_stream.specs.Reads.{reads_at};
 ghost use Rattle.sector_images.specs.Places.{tracks};
 
 use crate::capture::write_started;
-use crate::fault::PlanFault;
+use crate::fault::{RefusedCapture, Stopped};
 use crate::plan::Plan;
 use crate::room::DiskRoom;
 use crate::track_captures::read_captures;
@@ -44,7 +44,7 @@ pub fn decode_planned<S: Source, W: Sink, N: Sink>(
     source: &mut S,
     image: &mut W,
     notes: &mut N,
-) -> Result<Totals, PlanFault>
+) -> Result<Totals, Stopped<RefusedCapture>>
     requires fresh { room.old ≡ fresh room.old.format }
     requires few { plan.captures ≤ 16 }
     ensures decoded { DecodesPlanned plan (part_by plan.naming) room.old.format (S.left source.old) (S.left source.new)
@@ -58,7 +58,7 @@ pub fn decode_planned<S: Source, W: Sink, N: Sink>(
         → ReadsWhereOpen (EndsInPlan plan room.old.format) (reads_at S.Source source.old)
         (reads_at S.Source source.new) }
 
-    ensures blames { CountsBy (plan_blame result)
+    ensures blames { CountsBy (stop_blame result)
         (counts_at S.Source W.Sink N.Sink source.old image.old notes.old)
         (counts_at S.Source W.Sink N.Sink source.new image.new notes.new) }
 
@@ -77,7 +77,7 @@ pub fn decode_planned<S: Source, W: Sink, N: Sink>(
     }
     match write_line(notes, &total_line(&totals)) {
         Ok(()) => Ok(totals),
-        Err(_) => Err(PlanFault::NotesFault),
+        Err(_) => Err(Stopped::NotesFault),
     }
 }
 
@@ -93,7 +93,7 @@ pub fn decode_planned_tracks<O: TrackWriter, S: Source, W: Sink, N: Sink>(
     image: &mut W,
     notes: &mut N,
     totals: &mut Totals,
-) -> Result<(), PlanFault>
+) -> Result<(), Stopped<RefusedCapture>>
     requires none { totals.old ≡ no_totals }
     requires fresh { room.old ≡ fresh room.old.format }
     requires few { plan.captures ≤ 16 }
@@ -107,7 +107,7 @@ pub fn decode_planned_tracks<O: TrackWriter, S: Source, W: Sink, N: Sink>(
     ensures err { OnErr result
         (EndsInTracks plan (O.part_of writer.now) room.old.format (S.left source.old) (S.left source.new)
         (W.written image.old) (W.written image.new) (N.written notes.old) (N.written notes.new) totals.new result) }
-    ensures blames { CountsBy (plan_blame result)
+    ensures blames { CountsBy (stop_blame result)
         (counts_at S.Source W.Sink N.Sink source.old image.old notes.old)
         (counts_at S.Source W.Sink N.Sink source.new image.new notes.new) }
 {
@@ -138,7 +138,7 @@ pub fn decode_tracks<T: TrackStreams<S>, O: TrackWriter, S, W: Sink, N: Sink>(
     image: &mut W,
     notes: &mut N,
     totals: &mut Totals,
-) -> Result<(), PlanFault>
+) -> Result<(), Stopped<RefusedCapture>>
     requires none { totals.old ≡ no_totals }
     requires fresh { room.old ≡ fresh room.old.format }
     requires few { plan.captures ≤ 16 }
@@ -176,11 +176,11 @@ pub fn decode_tracks<T: TrackStreams<S>, O: TrackWriter, S, W: Sink, N: Sink>(
 }
 
 /// The fault of a sink, among those of a disk.
-fn of_part(fault: PartFault) -> PlanFault
+fn of_part(fault: PartFault) -> Stopped<RefusedCapture>
     ensures { result ≡ of_part_fault fault }
 {
     match fault {
-        PartFault::ImageFault => PlanFault::ImageFault,
-        PartFault::NotesFault => PlanFault::NotesFault,
+        PartFault::ImageFault => Stopped::ImageFault,
+        PartFault::NotesFault => Stopped::NotesFault,
     }
 }

@@ -16,7 +16,7 @@ ghost use Rattle.sector_images.specs.Places.{IsTrack, tracks};
 ghost use Rattle.turn_merge.specs.Book.{MOST_NOTES};
 
 use crate::capture::{clock_count, note_by_clocks, start_track};
-use crate::fault::PlanFault;
+use crate::fault::{RefusedCapture, Stopped};
 use crate::gathered_track::PassedStream;
 use crate::plan::{Clocks, Plan, Rule};
 use crate::room::{DiskRoom, Tools};
@@ -35,7 +35,7 @@ pub(crate) fn read_captures<T: TrackStreams<S>, S>(
     room: &mut DiskRoom,
     number: u32,
     source: &mut S,
-) -> Result<(), PlanFault>
+) -> Result<(), Stopped<RefusedCapture>>
     requires track { number < length (tracks room.old.format) }
     requires few { plan.captures ≤ 16 }
     requires sound { room.old.failed ≡ false }
@@ -166,16 +166,16 @@ fn note_next(
 }
 
 /// The fault of a capture of a track, among those of a disk.
-fn of_stream(track: u32, capture: u32, fault: CaptureFault) -> PlanFault
+fn of_stream(track: u32, capture: u32, fault: CaptureFault) -> Stopped<RefusedCapture>
     ensures { result ≡ of_stream_fault track capture fault }
 {
     match fault {
-        CaptureFault::ReadFault => PlanFault::ReadFault,
-        CaptureFault::Refused { block, fault } => PlanFault::Refused {
+        CaptureFault::ReadFault => Stopped::ReadFault,
+        CaptureFault::Refused { block, fault } => Stopped::Refused(RefusedCapture {
             track,
             capture,
             block,
             fault,
-        },
+        }),
     }
 }

@@ -16,14 +16,15 @@ use Rattle.sector_images.specs.declared.format.Format.{Format}
 use Rattle.sector_report.specs.Lines.{trial_text}
 use Rattle.sector_report.specs.declared.naming.Naming.TheVariants.{Unnamed}
 use Rattle.sector_report.specs.declared.totals.Totals.{Totals}
-use Rattle.flux_engine.specs.Blamed.{plan_blame}
+use Rattle.flux_engine.specs.Blamed.{stop_blame}
 use Rattle.flux_engine.specs.Disks.{images}
 use Rattle.flux_engine.specs.PlanAnswers.{PlanAnswer, SaysOfPlannedInput}
-use Rattle.flux_engine.specs.Plans.{IsPlanned, PlanStop, Planned, Streams, StopsAt, decoding, streams_in}
+use Rattle.flux_engine.specs.Plans.{IsPlanned, Planned, Streams, StopsAt, decoding, streams_in}
 use Rattle.flux_engine.specs.Streams.{stream_at}
 use Rattle.flux_engine.specs.Tracks.{TrackPart, part_by}
-use Rattle.flux_engine.specs.declared.fault.PlanFault.{PlanFault}
-use Rattle.flux_engine.specs.declared.fault.PlanFault.TheVariants.{ReadFault, ImageFault, NotesFault, Refused}
+use Rattle.flux_engine.specs.declared.fault.RefusedCapture.{RefusedCapture}
+use Rattle.flux_engine.specs.declared.fault.Stopped.{Stopped}
+use Rattle.flux_engine.specs.declared.fault.Stopped.TheVariants.{ReadFault, ImageFault, NotesFault, Refused}
 use Rattle.flux_engine.specs.declared.plan.Plan.{Plan}
 use Rattle.flux_trial.specs.Tracks.{IsTrialLine, trial_input, trial_stream}
 use Rattle.flux_trial.specs.inside.Keeping.{faults_of, ROOM}
@@ -61,27 +62,27 @@ module _ (laws : Laws) (stay : StreamsStay) (passed : PaddingIsPassed) (fit : Pl
       (is_stream_number stay passed (length (tracks format)) (trial_stream format seed) (trial_input format seed) (input_joined format seed)
       (λ j known. (let s = is_stream laws format seed j known in (s.no_fault, s.whole))) k below).no_fault
 
-  never_stops : (stop : Option PlanStop) → StopsAt decoding format streams stop → stop ≡ None
+  never_stops : (stop : Option RefusedCapture) → StopsAt decoding format streams stop → stop ≡ None
   never_stops None clean = refl
   never_stops (Some s) first = absurd (none_some _ _ (streams_sound s.track s.capture first.low first.few) first.is)
 
   -- no fault can come of a source and of notes that never fail, and of a sink that keeps more than an image
-  no_answer : (x : List ℕ) (left' notes notes' : Option (List ℕ)) (image : List ℕ) (fault : PlanFault) → x ≡ trial_input format seed
-      → RoseFor (plan_blame {A = Totals} (Err fault)) [] image → Says decoding format x left' notes notes' [] image (Err fault) → ⊥
+  no_answer : (x : List ℕ) (left' notes notes' : Option (List ℕ)) (image : List ℕ) (fault : Stopped RefusedCapture) → x ≡ trial_input format seed
+      → RoseFor (stop_blame {A = Totals} (Err fault)) [] image → Says decoding format x left' notes notes' [] image (Err fault) → ⊥
   no_answer x left' notes notes' image ReadFault is rose says = never_rose 0 refl rose.0
   no_answer x left' notes notes' image NotesFault is rose says = never_rose 0 refl rose.2
-  no_answer x left' notes notes' image (Refused track capture block why) is rose says =
+  no_answer x left' notes notes' image (Refused stop) is rose says =
       let o : Planned = says.2.0 in
       let none = never_stops o.stop (subst (λ (y : List ℕ). IsPlanned decoding (part_by Unnamed) format (streams_in decoding y) o) is says.2.1.decoded).stops in
       absurd (none_some _ _ none says.2.2)
   no_answer x left' notes notes' image ImageFault is rose says =
       let s = says.2 in
       let parts : List TrackPart = s.parts in
-      let most = fit decoding format (streams_in decoding x) (parts ++ s.next ∷ []) s.each (omega (arith, s.many, length-append parts (s.next ∷ []))) in
+      let most = fit decoding format (streams_in decoding x) (parts ++ s.next ∷ []) s.are.0 (omega (arith, s.few, length-append parts (s.next ∷ []))) in
       let both = ap length (flat_map-append (λ (p : TrackPart). p.image) parts (s.next ∷ [])) in
       let split = length-append (images parts) (images (s.next ∷ [])) in
       let one = length-append s.next.image [] in
-      let grew = s.image_grew in
+      let grew = s.wrote.0 in
       let size = ap length grew.2 in
       let front = length-append (images parts) (take grew.0 s.next.image) in
       let cut = length-take-le grew.0 s.next.image (omega (arith, grew.1)) in
@@ -110,10 +111,10 @@ module _ (laws : Laws) (stay : StreamsStay) (passed : PaddingIsPassed) (fit : Pl
         (subst (λ (f : Format). Says decoding f x left' notes notes' old image answer) same
         (subst (λ (p : Plan). Says p format' x left' notes notes' old image answer) plan_is says))
 
-    pub no_answer-of : (fault : PlanFault) → x ≡ trial_input format seed → RoseFor (plan_blame {A = Totals} (Err fault)) old image
+    pub no_answer-of : (fault : Stopped RefusedCapture) → x ≡ trial_input format seed → RoseFor (stop_blame {A = Totals} (Err fault)) old image
         → Says plan format' x left' notes notes' old image (Err fault) → ⊥
     no_answer-of fault is rose says =
-        no_answer x left' notes notes' image fault is (subst (λ (o : List ℕ). RoseFor (plan_blame {A = Totals} (Err fault)) o image) none rose) (says_of (Err fault) says)
+        no_answer x left' notes notes' image fault is (subst (λ (o : List ℕ). RoseFor (stop_blame {A = Totals} (Err fault)) o image) none rose) (says_of (Err fault) says)
 
     pub is_line-of : (totals : Totals) (count total : ℕ) (line : List ℕ) → x ≡ trial_input format seed → Says plan format' x left' notes notes' old image (Ok totals)
         → count ≡ length (tracks format) → total ≡ sum image → line ≡ trial_text format seed count totals total → IsTrialLine format seed line

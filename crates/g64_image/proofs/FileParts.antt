@@ -9,6 +9,7 @@ use Rattle.std.proofs.Math.Seq.{get_or-append_seam}
 use Rattle.flux_base.specs.Outside.{AppendsPart}
 use Rattle.flux_base.specs.declared.track.TrackId.{TrackId}
 use Rattle.flux_engine.specs.Answers.{AppendsAndPart}
+use Rattle.flux_engine.specs.Cut.{WritesFront}
 use Rattle.flux_engine.specs.Disks.{images, lines, no_totals, part_at, report_over, totals_over}
 use Rattle.flux_engine.specs.lemmas.TrackAt.{track_is}
 use Rattle.flux_engine.specs.lemmas.PartLaws.{images-more, lines-more, totals-more}
@@ -30,7 +31,7 @@ use Rattle.g64_image.specs.FileDisks.{AreFileParts, IsFilePart, read_count}
 use Rattle.g64_image.specs.Gathering.{HasRingReadings}
 use Rattle.g64_image.specs.Layout.{track_cells}
 use Rattle.g64_image.specs.Progress.{HasRead, WasStopped}
-use Rattle.g64_image.specs.declared.fault.FromStop.TheVariants.{NotesFault as NotesStop}
+use Rattle.flux_engine.specs.declared.fault.Stopped.TheVariants.{NotesFault as NotesStop}
 use Rattle.g64_image.specs.declared.fault.G64Fault.{G64Fault}
 
 no_part : TrackPart
@@ -107,29 +108,22 @@ module _ (format : Format) (file : List ℕ) (image imid image' notes nmid notes
       → AppendsAndPart old new whole more_bytes
   and_part old between new whole more_bytes first (k, within, then) = (k, within, Appends-trans old between new whole (take k more_bytes) first then)
 
+  front : (fault : PartFault) → WritesPart here imid image' nmid notes' (Err fault) → WritesFront fault h.parts here image image' notes notes'
+  front ImageFault w = (
+    and_part image imid image' (images h.parts) here.image h.image_grew w.0,
+    subst (λ (i : Option (List ℕ)). Appends notes i (lines h.parts)) (sym w.1) h.notes_grew,
+  )
+  front NotesFault w = (
+    subst (Appends image image') (sym (images-more h.parts here)) (Appends-trans image imid image' (images h.parts) here.image h.image_grew w.0),
+    and_part notes nmid notes' (lines h.parts) here.lines h.notes_grew w.1,
+  )
+
   pub read_stop : (fault : PartFault) → n < length (tracks format)
       → ((readings : List NotedReading) → StandsFor book readings → WritesPart (part_of format (track_at format n) readings) imid image' nmid notes' (Err fault))
       → WasStopped format file image image' notes notes' (Err fault)
   unfolding here
-  read_stop ImageFault low wrote =
-      let w = wrote gathered.readings gathered.stands in record {
-        parts = h.parts;
-        next = here;
-        each = more;
-        many = omega (arith, low, h.many);
-        image_grew = and_part image imid image' (images h.parts) here.image h.image_grew w.0;
-        notes_grew = subst (λ (i : Option (List ℕ)). Appends notes i (lines h.parts)) (sym w.1) h.notes_grew;
-      }
-  read_stop NotesFault low wrote =
-      let w = wrote gathered.readings gathered.stands in record {
-        parts = h.parts;
-        next = here;
-        each = more;
-        many = omega (arith, low, h.many);
-        image_grew = subst (Appends image image') (sym (images-more h.parts here))
-            (Appends-trans image imid image' (images h.parts) here.image h.image_grew w.0);
-        notes_grew = and_part notes nmid notes' (lines h.parts) here.lines h.notes_grew w.1;
-      }
+  read_stop fault low wrote =
+      record { parts = h.parts; next = here; are = more; few = omega (arith, low, h.many); wrote = front fault (wrote gathered.readings gathered.stands) }
 
 module _ (format : Format) (file : List ℕ) (left' image image' notes nmid notes' : Option (List ℕ)) (totals : Totals)
     (h : HasRead format file image image' notes nmid (length (tracks format)) totals) (whole : IsWholeFile format file left') where
@@ -154,7 +148,7 @@ module _ (format : Format) (file : List ℕ) (left' image image' notes nmid note
     whole,
     inr (record {
       parts = h.parts;
-      each = h.each;
+      are = h.each;
       many = h.many;
       image_grew = h.image_grew;
       notes_grew = subst (AppendsAndPart notes notes' (lines h.parts)) (ap total_text h.totals_are)

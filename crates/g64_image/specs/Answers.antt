@@ -1,26 +1,27 @@
 -- What the calls that write and read files may answer, and what that says of the
 -- bytes that were taken and written.
-use Rattle.std.specs.Prelude.{◌≡◌, ◌≤◌, ◌<◌, ◌⊎◌, ℕ, ◌+◌, List, [], ◌∷◌, ◌++◌, drop, length, Option}
+use Rattle.std.specs.Prelude.{◌≡◌, ◌≤◌, ◌⊎◌, ℕ, ◌+◌, List, [], ◌∷◌, ◌++◌, drop, length, Option}
 use Rattle.std.specs.Prelude.{Some, None, Result, Ok, Err}
 use Rattle.std.specs.Io.KnownBytes.{Appends, Consumes, IsAtEnd}
 use Rattle.flux_base.specs.Outside.{Rose}
-use Rattle.flux_engine.specs.Answers.{AppendsAndPart}
-use Rattle.flux_engine.specs.Disks.{images, lines, totals_over}
-use Rattle.flux_engine.specs.Tracks.{TrackPart}
+use Rattle.flux_engine.specs.Cut.{CutInTotal, CutInTrack}
 use Rattle.flux_engine.specs.Writes.{Answer, SaysOfMade, WritesMade}
+use Rattle.flux_engine.specs.declared.fault.Stopped.{Stopped}
 use Rattle.sector_images.specs.Places.{tracks}
 use Rattle.sector_images.specs.declared.format.Format.{Format}
-use Rattle.sector_report.specs.Lines.{total_text}
 use Rattle.sector_report.specs.declared.totals.Totals.{Totals}
 use Rattle.g64_image.specs.Faults.{MOST_BYTES, first_fault}
 use Rattle.g64_image.specs.FileDisks.{AreFileParts, FileDisk, IsFileDisk}
 use Rattle.g64_image.specs.Layout.{g64_file}
-use Rattle.g64_image.specs.declared.fault.FromStop.{FromStop}
-use Rattle.g64_image.specs.declared.fault.FromStop.TheVariants.{ReadFault, ImageFault, NotesFault}
-use Rattle.g64_image.specs.declared.fault.FromStop.TheVariants.{Refused}
+use Rattle.flux_engine.specs.declared.track_part.PartFault.{PartFault}
+use Rattle.flux_engine.specs.declared.track_part.PartFault.TheVariants.{ImageFault as PartImageFault}
+use Rattle.flux_engine.specs.declared.track_part.PartFault.TheVariants.{NotesFault as PartNotesFault}
+use Rattle.g64_image.specs.declared.fault.G64Fault.{G64Fault}
+use Rattle.flux_engine.specs.declared.fault.Stopped.TheVariants.{ReadFault, ImageFault, NotesFault}
+use Rattle.flux_engine.specs.declared.fault.Stopped.TheVariants.{Refused}
 
 abbrev pub FromAnswer : Type 0
-FromAnswer = Result Totals FromStop
+FromAnswer = Result Totals (Stopped G64Fault)
 
 -- a call that writes the file of an image
 abbrev pub WritesFile : Format → (left left' written written' : Option (List ℕ)) → Answer → Type 0
@@ -42,37 +43,19 @@ pub record IsTakenFile (taken : List ℕ) (left' : Option (List ℕ)) : Type 0 w
   pub most : length taken ≤ MOST_BYTES + 1
   pub ended : length taken ≤ MOST_BYTES → IsAtEnd left'
 
--- the lines of the first tracks were written, and their parts of the image with a part of
--- the next that is shorter than it
-pub record StoppedInImage (format : Format) (file : List ℕ)
-    (image image' notes notes' : Option (List ℕ)) : Type 0 where
-  pub parts : List TrackPart
-  pub next : TrackPart
-  pub each : AreFileParts format file (parts ++ next ∷ [])
-  pub many : length parts < length (tracks format)
-  pub image_grew : AppendsAndPart image image' (images parts) next.image
-  pub notes_grew : Appends notes notes' (lines parts)
+-- a sink failed in a track
+abbrev pub FileCutInTrack : PartFault → Format → (file : List ℕ)
+    → (image image' notes notes' : Option (List ℕ)) → Type 0
+FileCutInTrack cause format file =
+    CutInTrack (λ parts next. AreFileParts format file (parts ++ next ∷ []))
+    (length (tracks format)) cause
 
--- the lines of the first tracks were written, with a part of the lines of the next that is shorter
--- than they are, and the parts of the image of all these tracks
-pub record StoppedInLines (format : Format) (file : List ℕ)
-    (image image' notes notes' : Option (List ℕ)) : Type 0 where
-  pub parts : List TrackPart
-  pub next : TrackPart
-  pub each : AreFileParts format file (parts ++ next ∷ [])
-  pub many : length parts < length (tracks format)
-  pub image_grew : Appends image image' (images (parts ++ next ∷ []))
-  pub notes_grew : AppendsAndPart notes notes' (lines parts) next.lines
-
--- all sector lines and the whole image were written, and a part of the
--- total line that is shorter than it
-pub record StoppedInTotal (format : Format) (file : List ℕ)
-    (image image' notes notes' : Option (List ℕ)) : Type 0 where
-  pub parts : List TrackPart
-  pub each : AreFileParts format file parts
-  pub many : length parts ≡ length (tracks format)
-  pub image_grew : Appends image image' (images parts)
-  pub notes_grew : AppendsAndPart notes notes' (lines parts) (total_text (totals_over parts))
+-- the sink of the notes failed: in a track, or behind all tracks
+abbrev pub FileCutInNotes : Format → (file : List ℕ)
+    → (image image' notes notes' : Option (List ℕ)) → Type 0
+FileCutInNotes format file image image' notes notes' =
+    FileCutInTrack PartNotesFault format file image image' notes notes'
+    ⊎ CutInTotal (AreFileParts format file) (length (tracks format)) image image' notes notes'
 
 -- a file without a fault was taken to its end
 pub record IsWholeFile (format : Format) (file : List ℕ) (left' : Option (List ℕ)) : Type 0 where
@@ -98,11 +81,10 @@ SaysOfFile format taken left' image image' notes notes' (Err (Refused fault)) =
 SaysOfFile format taken left' image image' notes notes' (Err ReadFault) =
     (length taken ≤ MOST_BYTES) × (image' ≡ image) × (notes' ≡ notes)
 SaysOfFile format taken left' image image' notes notes' (Err ImageFault) =
-    IsWholeFile format taken left' × StoppedInImage format taken image image' notes notes'
-SaysOfFile format taken left' image image' notes notes' (Err NotesFault) =
     IsWholeFile format taken left'
-    × (StoppedInLines format taken image image' notes notes'
-    ⊎ StoppedInTotal format taken image image' notes notes')
+    × FileCutInTrack PartImageFault format taken image image' notes notes'
+SaysOfFile format taken left' image image' notes notes' (Err NotesFault) =
+    IsWholeFile format taken left' × FileCutInNotes format taken image image' notes notes'
 
 -- A call that reads a file: it took these bytes.
 pub record ReadsFile (format : Format) (left left' image image' notes notes' : Option (List ℕ))
@@ -126,11 +108,10 @@ SaysOfFileBytes format x left' image image' notes notes' (Err ReadFault) =
     × (image' ≡ image) × (notes' ≡ notes)
 SaysOfFileBytes format x left' image image' notes notes' (Err ImageFault) =
     (first_fault format x ≡ None) × (left' ≡ Some [])
-    × StoppedInImage format x image image' notes notes'
+    × FileCutInTrack PartImageFault format x image image' notes notes'
 SaysOfFileBytes format x left' image image' notes notes' (Err NotesFault) =
     (first_fault format x ≡ None) × (left' ≡ Some [])
-    × (StoppedInLines format x image image' notes notes'
-    ⊎ StoppedInTotal format x image image' notes notes')
+    × FileCutInNotes format x image image' notes notes'
 
 -- the file was read, or has a fault
 abbrev pub IsReadOrRefused : FromAnswer → Type 0

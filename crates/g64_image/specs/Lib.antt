@@ -4,7 +4,6 @@ pub mod Faults
 pub mod FileDisks
 pub mod Gathering
 pub mod Answers
-pub mod Blamed
 pub mod Progress
 pub mod Lines
 pub mod Laws

@@ -4,10 +4,9 @@ use Rattle.std.specs.Io.KnownBytes.{Appends}
 use Rattle.flux_engine.specs.Disks.{images, lines, totals_over}
 use Rattle.flux_engine.specs.Tracks.{TrackPart}
 use Rattle.flux_engine.specs.declared.track_part.PartFault.{PartFault}
-use Rattle.flux_engine.specs.declared.track_part.PartFault.TheVariants.{ImageFault, NotesFault}
 use Rattle.sector_images.specs.declared.format.Format.{Format}
 use Rattle.sector_report.specs.declared.totals.Totals.{Totals}
-use Rattle.g64_image.specs.Answers.{StoppedInImage, StoppedInLines}
+use Rattle.g64_image.specs.Answers.{FileCutInTrack}
 use Rattle.g64_image.specs.FileDisks.{AreFileParts}
 
 -- The first n tracks of a file are written whole.
@@ -24,7 +23,5 @@ pub record HasRead (format : Format) (file : List ℕ) (image image' notes notes
 abbrev pub WasStopped : Format → (file : List ℕ) → (image image' notes notes' : Option (List ℕ))
     → Result Totals PartFault → Type 0
 WasStopped format file image image' notes notes' (Ok totals) = Unit {0}
-WasStopped format file image image' notes notes' (Err ImageFault) =
-    StoppedInImage format file image image' notes notes'
-WasStopped format file image image' notes notes' (Err NotesFault) =
-    StoppedInLines format file image image' notes notes'
+WasStopped format file image image' notes notes' (Err cause) =
+    FileCutInTrack cause format file image image' notes notes'

@@ -28,20 +28,3 @@ pub enum G64Fault {
     #[error("the file ends inside track {track}, which has {length} bytes")]
     ShortTrack { track: u8, length: u16 },
 }
-
-/// Why a file was not read, or its image and report not written whole.
-#[derive(Clone, Copy, Debug, PartialEq, Eq, Error)]
-pub enum FromStop {
-    /// The source failed.
-    #[error("the source failed")]
-    ReadFault,
-    /// The sink of the image failed.
-    #[error("the image was not written")]
-    ImageFault,
-    /// The sink of the notes failed.
-    #[error("the notes were not written")]
-    NotesFault,
-    /// The file has a fault.
-    #[error("{0}")]
-    Refused(G64Fault),
-}

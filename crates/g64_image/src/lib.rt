@@ -16,7 +16,7 @@ mod room;
 mod track;
 mod writing;
 
-pub use fault::{FromStop, G64Fault};
+pub use fault::G64Fault;
 pub use laws::{
     file_disks_are_one, file_lines_tell, good_is_right_in_files, written_files_come_back,
     written_files_have_rings,

@@ -4,24 +4,23 @@ ghost use Rattle.std.specs.Prelude.{◌≡◌, ◌≤◌, ◌<◌, ℕ, List, No
 ghost use Rattle.flux_base.specs.Blames.{CountsBy};
 ghost use Rattle.flux_base.specs.World.{counts_at, sinks_counts};
 ghost use Rattle.flux_engine.specs.Answers.{Stayed};
-ghost use Rattle.flux_engine.specs.Blamed.{part_blame};
+ghost use Rattle.flux_engine.specs.Blamed.{part_blame, stop_blame};
 ghost use Rattle.flux_engine.specs.Needed.{ReadsUpTo};
 ghost use Rattle.kryo_stream.specs.Reads.{reads_at};
 ghost use Rattle.sector_images.specs.Places.{tracks};
 ghost use Rattle.g64_image.specs.Answers.{FromCause, IsReadOrRefused, IsTakenFile, ReadsFile, SaysOfFile};
 ghost use Rattle.g64_image.specs.Answers.{SaysOfFileBytes};
-ghost use Rattle.g64_image.specs.Blamed.{from_blame};
 ghost use Rattle.g64_image.specs.Faults.{HasTables, first_fault as first_fault_of};
 ghost use Rattle.g64_image.specs.Layout.{IsCommodore};
 ghost use Rattle.g64_image.specs.Progress.{HasRead, WasStopped};
 ghost use Rattle.g64_image.specs.Room.{IsRoomy};
 
 use crate::check::{first_fault, track_bytes};
-use crate::fault::FromStop;
+use crate::fault::G64Fault;
 use crate::room::{G64Room, Tools};
 use crate::track::read_ring;
 use flux_base::{Sink, Source};
-use flux_engine::{PartFault, add_totals, fill, no_totals, write_part};
+use flux_engine::{PartFault, Stopped, add_totals, fill, no_totals, write_part};
 use sector_images::{Format, track_count, track_id, tracks_keep_bounds};
 use sector_report::{Naming, Totals, total_line, write_line};
 
@@ -36,7 +35,7 @@ pub fn from_g64<S: Source, W: Sink, N: Sink>(
     source: &mut S,
     image: &mut W,
     notes: &mut N,
-) -> Result<Totals, FromStop>
+) -> Result<Totals, Stopped<G64Fault>>
     ensures read { ReadsFile room.old (S.left source.old) (S.left source.new) (W.written image.old)
         (W.written image.new) (N.written notes.old) (N.written notes.new) result }
     ensures told { (bytes : List ℕ) → S.left source.old ≡ Some bytes
@@ -49,7 +48,7 @@ pub fn from_g64<S: Source, W: Sink, N: Sink>(
     ensures format { room.new ≡ room.old }
     ensures cause { FromCause (S.faults source.old) (S.faults source.new) (W.faults image.old) (W.faults image.new)
         (N.faults notes.old) (N.faults notes.new) result }
-    ensures blames { CountsBy (from_blame result)
+    ensures blames { CountsBy (stop_blame result)
         (counts_at S.Source W.Sink N.Sink source.old image.old notes.old)
         (counts_at S.Source W.Sink N.Sink source.new image.new notes.new) }
 
@@ -63,7 +62,7 @@ pub fn from_g64<S: Source, W: Sink, N: Sink>(
 {
     let read = match fill(&mut room.file, source) {
         Ok(read) => read,
-        Err(_) => return Err(FromStop::ReadFault),
+        Err(_) => return Err(Stopped::ReadFault),
     };
     read_file(
         room.format,
@@ -81,30 +80,30 @@ fn read_file<W: Sink, N: Sink>(
     tools: &mut Tools,
     image: &mut W,
     notes: &mut N,
-) -> Result<Totals, FromStop>
+) -> Result<Totals, Stopped<G64Fault>>
     requires format { IsCommodore format }
     requires few { length file.now ≤ 4194305 }
     requires roomy { IsRoomy format tools.old.cells tools.old.book }
     ensures says { (left : Option (List ℕ)) → IsTakenFile file.now left
         → SaysOfFile format file.now left (W.written image.old) (W.written image.new) (N.written notes.old)
         (N.written notes.new) result }
-    ensures blames { CountsBy (from_blame result)
+    ensures blames { CountsBy (stop_blame result)
         (sinks_counts W.Sink N.Sink image.old notes.old)
         (sinks_counts W.Sink N.Sink image.new notes.new) }
     ensures roomy { IsRoomy format tools.new.cells tools.new.book }
 {
     match first_fault(format, file) {
-        Some(fault) => return Err(FromStop::Refused(fault)),
+        Some(fault) => return Err(Stopped::Refused(fault)),
         None => {}
     }
     let totals = match write_tracks(format, file, tools, image, notes) {
         Ok(totals) => totals,
-        Err(PartFault::ImageFault) => return Err(FromStop::ImageFault),
-        Err(PartFault::NotesFault) => return Err(FromStop::NotesFault),
+        Err(PartFault::ImageFault) => return Err(Stopped::ImageFault),
+        Err(PartFault::NotesFault) => return Err(Stopped::NotesFault),
     };
     match write_line(notes, &total_line(&totals)) {
         Ok(()) => Ok(totals),
-        Err(_) => Err(FromStop::NotesFault),
+        Err(_) => Err(Stopped::NotesFault),
     }
 }
 

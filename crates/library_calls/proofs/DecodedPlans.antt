@@ -4,14 +4,17 @@ use Rattle.std.proofs.Common.{ap, sym, subst, ◌∙◌, arith, inl, inr}
 use Rattle.sector_images.specs.Places.{tracks}
 use Rattle.sector_images.specs.declared.format.Format.{Format}
 use Rattle.sector_report.specs.declared.naming.Naming.TheVariants.{Unnamed}
-use Rattle.library_calls.specs.Answers.{DecodesDisk, IsOfBytesAtHand, IsTruncated, SaysOfDisk, WroteAll, engine_answer}
+use Rattle.library_calls.specs.Answers.{DecodesDisk, DiskCutInTrack, IsOfBytesAtHand, IsTruncated, SaysOfDisk, WroteAll, engine_answer}
 use Rattle.flux_engine.specs.Answers.{IsTakenBehind}
 use Rattle.library_calls.specs.Disks.{AreParts, Decoded, IsDecoded, IsPartAt, decoded_count}
 use Rattle.flux_engine.specs.Disks.{part_at, report_over}
-use Rattle.flux_engine.specs.PlanAnswers.{DecodesPlanned, IsOfBytesTaken, PlanAnswer, SaysOfPlanned, SaysTruncated, WrotePlanned}
-use Rattle.flux_engine.specs.Plans.{ArePlannedParts, IsFirstFault, IsPlanned, IsPlannedPart, PlanStop, Planned, StopsAt, decoding, planned_count, streams_in}
+use Rattle.flux_engine.specs.PlanAnswers.{DecodesPlanned, IsOfBytesTaken, PlanAnswer, PlanCutInTrack, SaysOfPlanned, SaysTruncated, WrotePlanned}
+use Rattle.flux_engine.specs.Plans.{ArePlannedParts, IsFirstFault, IsPlanned, IsPlannedPart, Planned, StopsAt, decoding, planned_count, streams_in}
 use Rattle.flux_engine.specs.Tracks.{TrackPart, part_by}
-use Rattle.flux_engine.specs.declared.fault.PlanFault.TheVariants.{ReadFault, ImageFault, NotesFault, Refused}
+use Rattle.flux_engine.specs.declared.fault.RefusedCapture.{RefusedCapture}
+use Rattle.flux_engine.specs.declared.fault.Stopped.TheVariants.{ReadFault, ImageFault, NotesFault, Refused}
+use Rattle.flux_engine.specs.declared.track_part.PartFault.{PartFault}
+use Rattle.flux_engine.specs.declared.track_part.PartFault.TheVariants.{ImageFault as PartImageFault, NotesFault as PartNotesFault}
 use Rattle.library_calls.proofs.OneStream.{one_stream, plain_stop, stop_same}
 
 one_part : (format : Format) (x : List ℕ) (n : ℕ) (part : TrackPart) → IsPlannedPart decoding (part_by Unnamed) format (streams_in decoding x) n part → IsPartAt format x n part
@@ -25,11 +28,11 @@ one_parts format x parts are = λ n low. one_part format x n (part_at parts n) (
 abbrev plain : Planned → Decoded
 plain o = record { image = o.image; notes = o.notes; totals = o.totals; stop = plain_stop o.stop }
 
-same_count : (format : Format) (stop : Option PlanStop) → planned_count format stop ≡ decoded_count format (plain_stop stop)
+same_count : (format : Format) (stop : Option RefusedCapture) → planned_count format stop ≡ decoded_count format (plain_stop stop)
 same_count format None = refl
 same_count format (Some s) = refl
 
-same_of : (parts : List TrackPart) (stop : Option PlanStop) → plain (report_over parts stop) ≡ report_over parts (plain_stop stop)
+same_of : (parts : List TrackPart) (stop : Option RefusedCapture) → plain (report_over parts stop) ≡ report_over parts (plain_stop stop)
 same_of parts None = refl
 same_of parts (Some s) = refl
 
@@ -51,46 +54,41 @@ module _ (format : Format) (x later : List ℕ) (image image' notes notes' : Opt
   behind_one n m most same taken = subst (λ (k : ℕ). IsTakenBehind x later k most) same taken
 
   -- a stop names the one capture
-  first_capture : (o : Planned) (stop : PlanStop) → IsPlanned decoding (part_by Unnamed) format (streams_in decoding x) o → o.stop ≡ Some stop → stop.capture ≡ 0
+  first_capture : (o : Planned) (stop : RefusedCapture) → IsPlanned decoding (part_by Unnamed) format (streams_in decoding x) o → o.stop ≡ Some stop → stop.capture ≡ 0
   first_capture o stop p is =
       let f : IsFirstFault decoding format (streams_in decoding x) stop = subst (StopsAt decoding format (streams_in decoding x)) is p.stops in
       omega (arith, f.few)
+
+  cut_in_track : (cause : PartFault) → PlanCutInTrack cause decoding (part_by Unnamed) format x later image image' notes notes'
+      → DiskCutInTrack cause format x later image image' notes notes'
+  cut_in_track cause s = record {
+    parts = s.parts;
+    next = s.next;
+    are = (
+      one_parts format x (s.parts ++ s.next ∷ []) s.are.0,
+      behind_one (length s.parts * 1) (length s.parts) 4198416 (omega arith) s.are.1,
+    );
+    few = s.few;
+    wrote = s.wrote;
+  }
 
   says_of_disk : (answer : PlanAnswer) → SaysOfPlanned decoding (part_by Unnamed) format x later image image' notes notes' answer
       → SaysOfDisk format x later image image' notes notes' (engine_answer answer)
   says_of_disk (Ok totals) (o, wrote, none, are, taken) =
       (plain o, wrote_all o wrote, ap plain_stop none, are, behind_one (length (tracks format) * 1) (length (tracks format)) 4096 (omega arith) taken)
-  says_of_disk (Err (Refused track capture block fault)) (o, wrote, stops, taken) =
-      let stop : PlanStop = record { track = track; capture = capture; block = block; fault = fault } in
+  says_of_disk (Err (Refused stop)) (o, wrote, stops, taken) =
       let first = first_capture o stop wrote.decoded stops in
-      (plain o, wrote_all o wrote, ap plain_stop stops, behind_one (track * 1 + capture) track 4198416 (omega (arith, first)) taken)
+      (plain o, wrote_all o wrote, ap plain_stop stops, behind_one (stop.track * 1 + stop.capture) stop.track 4198416 (omega (arith, first)) taken)
   says_of_disk (Err ReadFault) (o, stop, wrote, stops, cut) =
       (plain o, record { track = stop.track; block = stop.block; fault = stop.fault }, wrote_all o wrote, ap plain_stop stops, cut)
-  says_of_disk (Err ImageFault) s = record {
-    parts = s.parts;
-    next = s.next;
-    each = one_parts format x (s.parts ++ s.next ∷ []) s.each;
-    many = s.many;
-    image_grew = s.image_grew;
-    notes_grew = s.notes_grew;
-    taken = behind_one (length s.parts * 1) (length s.parts) 4198416 (omega arith) s.taken;
-  }
-  says_of_disk (Err NotesFault) (inl s) = inl (record {
-    parts = s.parts;
-    next = s.next;
-    each = one_parts format x (s.parts ++ s.next ∷ []) s.each;
-    many = s.many;
-    image_grew = s.image_grew;
-    notes_grew = s.notes_grew;
-    taken = behind_one (length s.parts * 1) (length s.parts) 4198416 (omega arith) s.taken;
-  })
+  says_of_disk (Err ImageFault) s = cut_in_track PartImageFault s
+  says_of_disk (Err NotesFault) (inl s) = inl (cut_in_track PartNotesFault s)
   says_of_disk (Err NotesFault) (inr s) = inr (record {
     parts = s.parts;
-    each = one_parts format x s.parts s.each;
+    are = (one_parts format x s.parts s.are.0, behind_one (length s.parts * 1) (length s.parts) 4096 (omega arith) s.are.1);
     many = s.many;
     image_grew = s.image_grew;
     notes_grew = s.notes_grew;
-    taken = behind_one (length s.parts * 1) (length s.parts) 4096 (omega arith) s.taken;
   })
 
 at_hand : (answer : PlanAnswer) → IsOfBytesTaken answer → IsOfBytesAtHand (engine_answer answer)
@@ -98,14 +96,14 @@ at_hand (Ok totals) cannot = cannot
 at_hand (Err ReadFault) is = is
 at_hand (Err ImageFault) cannot = cannot
 at_hand (Err NotesFault) cannot = cannot
-at_hand (Err (Refused track capture block fault)) is = is
+at_hand (Err (Refused stop)) is = is
 
 truncated : (answer : PlanAnswer) → IsTruncated (engine_answer answer) → SaysTruncated answer
 truncated (Ok totals) cannot = cannot
 truncated (Err ReadFault) cannot = cannot
 truncated (Err ImageFault) cannot = cannot
 truncated (Err NotesFault) cannot = cannot
-truncated (Err (Refused track capture block fault)) is = is
+truncated (Err (Refused stop)) is = is
 
 pub decodes_disk : (format : Format) (left left' image image' notes notes' : Option (List ℕ)) (answer : PlanAnswer)
     → DecodesPlanned decoding (part_by Unnamed) format left left' image image' notes notes' answer → DecodesDisk format left left' image image' notes notes' (engine_answer answer)

@@ -18,7 +18,7 @@ use Rattle.flux_engine.specs.TrackParts.{WritesPart}
 use Rattle.library_calls.specs.Disks.{IsPart}
 use Rattle.flux_engine.specs.Tracks.{TrackPart, part_of}
 use Rattle.kryo_stream.specs.declared.fault.CaptureFault.{CaptureFault}
-use Rattle.kryo_stream.specs.declared.fault.CaptureFault.TheVariants.{ReadFault as UnreadCapture, Refused as RefusedCapture}
+use Rattle.kryo_stream.specs.declared.fault.CaptureFault.TheVariants.{ReadFault as UnreadCapture, Refused as RefusedStream}
 use Rattle.flux_engine.specs.declared.track_part.PartFault.{PartFault}
 use Rattle.flux_engine.specs.declared.track_part.PartFault.TheVariants.{ImageFault as PartImageFault, NotesFault as PartNotesFault}
 
@@ -57,7 +57,7 @@ module _ (format : Format) (track : TrackId) (number : ℕ) (left left' : Option
     ended = c.read.ended;
     wrote = (refl, refl);
   }
-  decodes_fault image notes (RefusedCapture block fault) c = record {
+  decodes_fault image notes (RefusedStream block fault) c = record {
     taken = c.read.taken;
     consumed = c.read.consumed;
     few = c.read.few;

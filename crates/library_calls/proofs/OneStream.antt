@@ -18,7 +18,8 @@ use Rattle.library_calls.specs.Disks.{Stop, stop_at, stop_of, has_fault}
 use Rattle.library_calls.specs.Answers.{EndsInStreams}
 use Rattle.flux_engine.specs.Needed.{ReadsWhereOpen}
 use Rattle.flux_engine.specs.PlanProgress.{StoppedAt}
-use Rattle.flux_engine.specs.Plans.{EndsInPlan, IsPlannedPart, PartOf, PlanStop, StopsAt, decoding, joined, streams_in}
+use Rattle.flux_engine.specs.declared.fault.RefusedCapture.{RefusedCapture}
+use Rattle.flux_engine.specs.Plans.{EndsInPlan, IsPlannedPart, PartOf, StopsAt, decoding, joined, streams_in}
 use Rattle.flux_engine.specs.Recordings.{cells_of, track_at}
 use Rattle.flux_engine.specs.Streams.{stream_at}
 use Rattle.flux_engine.specs.Tracks.{Found, TrackPart, readings_of, track_notes}
@@ -88,11 +89,11 @@ no_stop format x clean =
     (find-none (has_fault x) 0 (length (tracks format)) (λ k above below. no-fault x k (clean k (omega (arith, below)))))
 
 -- a stop that does not name the one capture
-abbrev pub plain_stop : Option PlanStop → Option Stop
+abbrev pub plain_stop : Option RefusedCapture → Option Stop
 plain_stop None = None
 plain_stop (Some s) = Some (record { track = s.track; block = s.block; fault = s.fault })
 
-pub stop_same : (format : Format) (x : List ℕ) (stop : Option PlanStop) → StopsAt decoding format (streams_in decoding x) stop → stop_of format x ≡ plain_stop stop
+pub stop_same : (format : Format) (x : List ℕ) (stop : Option RefusedCapture) → StopsAt decoding format (streams_in decoding x) stop → stop_of format x ≡ plain_stop stop
 stop_same format x None clean =
     no_stop format x (λ k low. subst (λ (i : ℕ). first_fault (stream_at x i) ≡ None) (number-is k) (clean k 0 low (omega arith)))
 stop_same format x (Some s) f =

@@ -1,6 +1,6 @@
 -- What the calls that decode may answer, and what that says of the input and
 -- of the bytes that were written.
-use Rattle.std.specs.Prelude.{◌≡◌, ◌≤◌, ◌<◌, ◌⊎◌, ℕ, ◌+◌, Bool, List, [], ◌∷◌, ◌++◌, length, Option}
+use Rattle.std.specs.Prelude.{◌≡◌, ◌≤◌, ◌⊎◌, ℕ, Bool, List, [], ◌∷◌, ◌++◌, length, Option}
 use Rattle.std.specs.Prelude.{Some, None, Result, Ok, Err, OnOk}
 use Rattle.std.specs.Io.KnownBytes.{Appends, Consumes, IsAtEnd}
 use Rattle.flux_base.specs.Outside.{Rose, AppendsPart}
@@ -10,30 +10,29 @@ use Rattle.kryo_stream.specs.Stream.{first_fault, times, indexes}
 use Rattle.kryo_stream.specs.declared.fault.StreamFault.TheVariants.{Truncated}
 use Rattle.sector_images.specs.Places.{tracks}
 use Rattle.sector_images.specs.declared.format.Format.{Format}
-use Rattle.sector_report.specs.Lines.{total_text}
 use Rattle.sector_report.specs.declared.totals.Totals.{Totals}
 use Rattle.turn_merge.specs.Book.{Knowledge}
 use Rattle.turn_merge.specs.Readings.{NotedReading}
 use Rattle.flux_engine.specs.Captured.{AppendsReadings, AreReadingsAt}
 use Rattle.library_calls.specs.Disks.{Stop, Decoded, IsDecoded, AreParts, IsPart, stop_of}
-use Rattle.flux_engine.specs.Disks.{images, lines, totals_over}
+use Rattle.flux_engine.specs.Cut.{CutInTotal, CutInTrack}
 use Rattle.flux_engine.specs.Tracks.{TrackPart}
 use Rattle.kryo_stream.specs.declared.fault.CaptureFault.{CaptureFault}
 use Rattle.kryo_stream.specs.declared.fault.CaptureFault.TheVariants.{ReadFault as UnreadCapture}
-use Rattle.kryo_stream.specs.declared.fault.CaptureFault.TheVariants.{Refused as RefusedCapture}
+use Rattle.kryo_stream.specs.declared.fault.CaptureFault.TheVariants.{Refused as RefusedStream}
 use Rattle.library_calls.specs.declared.fault.EngineFault.{EngineFault}
 use Rattle.flux_engine.specs.declared.track_part.PartFault.{PartFault}
 use Rattle.flux_engine.specs.declared.track_part.PartFault.TheVariants.{ImageFault as PartImageFault}
 use Rattle.flux_engine.specs.declared.track_part.PartFault.TheVariants.{NotesFault as PartNotesFault}
 use Rattle.library_calls.specs.declared.fault.EngineFault.TheVariants.{ReadFault, ImageFault}
 use Rattle.library_calls.specs.declared.fault.EngineFault.TheVariants.{NotesFault, Refused}
-use Rattle.flux_engine.specs.Answers.{IsTrackStream, CaptureAnswer, ReadsStream, AppendsAndPart}
+use Rattle.flux_engine.specs.Answers.{IsTrackStream, CaptureAnswer, ReadsStream}
 use Rattle.flux_engine.specs.Answers.{IsTakenBehind}
 use Rattle.flux_engine.specs.PlanAnswers.{PlanAnswer}
-use Rattle.flux_engine.specs.declared.fault.PlanFault.TheVariants.{ReadFault as PlanUnread}
-use Rattle.flux_engine.specs.declared.fault.PlanFault.TheVariants.{ImageFault as PlanUnwritten}
-use Rattle.flux_engine.specs.declared.fault.PlanFault.TheVariants.{NotesFault as PlanUntold}
-use Rattle.flux_engine.specs.declared.fault.PlanFault.TheVariants.{Refused as PlanRefused}
+use Rattle.flux_engine.specs.declared.fault.Stopped.TheVariants.{ReadFault as PlanUnread}
+use Rattle.flux_engine.specs.declared.fault.Stopped.TheVariants.{ImageFault as PlanUnwritten}
+use Rattle.flux_engine.specs.declared.fault.Stopped.TheVariants.{NotesFault as PlanUntold}
+use Rattle.flux_engine.specs.declared.fault.Stopped.TheVariants.{Refused as PlanRefused}
 use Rattle.flux_base.specs.Blames.{Blame, no_one, the_source, the_image, the_notes}
 
 abbrev pub Answer : Type 0
@@ -76,7 +75,7 @@ CaptureCause source source' _ = Unit {0}
 -- the fault of a track's one stream, among those of decoding
 abbrev pub of_capture : (number : ℕ) → CaptureFault → EngineFault
 of_capture number UnreadCapture = ReadFault
-of_capture number (RefusedCapture block fault) = Refused number block fault
+of_capture number (RefusedStream block fault) = Refused number block fault
 
 -- the fault of a sink as a track was written
 abbrev pub of_sink : PartFault → EngineFault
@@ -133,40 +132,21 @@ pub record WroteAll (format : Format) (x : List ℕ) (image image' notes notes' 
   pub image_grew : Appends image image' o.image
   pub notes_grew : Appends notes notes' o.notes
 
--- the lines of the first tracks were written, and their parts of the image with a part of
--- the next that is shorter than it
-pub record StoppedInImage (format : Format) (x later : List ℕ)
-    (image image' notes notes' : Option (List ℕ)) : Type 0 where
-  pub parts : List TrackPart
-  pub next : TrackPart
-  pub each : AreParts format x (parts ++ next ∷ [])
-  pub many : length parts < length (tracks format)
-  pub image_grew : AppendsAndPart image image' (images parts) next.image
-  pub notes_grew : Appends notes notes' (lines parts)
-  pub taken : IsTakenBehind x later (length parts) 4198416
+-- a sink failed in a track, of which the stream was taken
+abbrev pub DiskCutInTrack : PartFault → Format → (x later : List ℕ)
+    → (image image' notes notes' : Option (List ℕ)) → Type 0
+DiskCutInTrack cause format x later =
+    CutInTrack
+    (λ parts next.
+    AreParts format x (parts ++ next ∷ [])
+    × IsTakenBehind x later (length parts) 4198416) (length (tracks format)) cause
 
--- the lines of the first tracks were written, with a part of the lines of the next that is shorter
--- than they are, and the parts of the image of all these tracks
-pub record StoppedInLines (format : Format) (x later : List ℕ)
-    (image image' notes notes' : Option (List ℕ)) : Type 0 where
-  pub parts : List TrackPart
-  pub next : TrackPart
-  pub each : AreParts format x (parts ++ next ∷ [])
-  pub many : length parts < length (tracks format)
-  pub image_grew : Appends image image' (images (parts ++ next ∷ []))
-  pub notes_grew : AppendsAndPart notes notes' (lines parts) next.lines
-  pub taken : IsTakenBehind x later (length parts) 4198416
-
--- all sector lines and the whole image were written, and a part of the
--- total line that is shorter than it
-pub record StoppedInTotal (format : Format) (x later : List ℕ)
-    (image image' notes notes' : Option (List ℕ)) : Type 0 where
-  pub parts : List TrackPart
-  pub each : AreParts format x parts
-  pub many : length parts ≡ length (tracks format)
-  pub image_grew : Appends image image' (images parts)
-  pub notes_grew : AppendsAndPart notes notes' (lines parts) (total_text (totals_over parts))
-  pub taken : IsTakenBehind x later (length parts) 4096
+-- the sink of the notes failed behind all tracks
+abbrev pub DiskCutInTotal : Format → (x later : List ℕ)
+    → (image image' notes notes' : Option (List ℕ)) → Type 0
+DiskCutInTotal format x later =
+    CutInTotal (λ parts. AreParts format x parts × IsTakenBehind x later (length parts) 4096)
+    (length (tracks format))
 
 -- What the answer says of the input x, which has bytes `later` that were not taken.
 abbrev pub SaysOfDisk : Format → (x later : List ℕ) → (image image' notes notes' : Option (List ℕ))
@@ -183,10 +163,10 @@ SaysOfDisk format x later image image' notes notes' (Err ReadFault) =
     (o : Decoded) × (stop : Stop) × WroteAll format x image image' notes notes' o
     × (o.stop ≡ Some stop) × (stop.fault ≡ Truncated)
 SaysOfDisk format x later image image' notes notes' (Err ImageFault) =
-    StoppedInImage format x later image image' notes notes'
+    DiskCutInTrack PartImageFault format x later image image' notes notes'
 SaysOfDisk format x later image image' notes notes' (Err NotesFault) =
-    StoppedInLines format x later image image' notes notes'
-    ⊎ StoppedInTotal format x later image image' notes notes'
+    DiskCutInTrack PartNotesFault format x later image image' notes notes'
+    ⊎ DiskCutInTotal format x later image image' notes notes'
 
 -- A call that decodes a disk from a fresh room: it took these bytes, and what it says is right
 -- whatever follows them, unless it is of them alone.
@@ -230,7 +210,7 @@ engine_answer (Ok totals) = Ok totals
 engine_answer (Err PlanUnread) = Err ReadFault
 engine_answer (Err PlanUnwritten) = Err ImageFault
 engine_answer (Err PlanUntold) = Err NotesFault
-engine_answer (Err (PlanRefused track capture block fault)) = Err (Refused track block fault)
+engine_answer (Err (PlanRefused stop)) = Err (Refused stop.track stop.block stop.fault)
 
 abbrev pub engine_blame : {A : Type 0} → Result A EngineFault → Blame
 engine_blame (Err ReadFault) = the_source

@@ -10,7 +10,7 @@ ghost use Rattle.kryo_stream.specs.Reads.{reads_at};
 
 use crate::fault::EngineFault;
 use flux_base::{Sink, Source};
-use flux_engine::{DiskRoom, PlanFault, decode_planned, decoding_plan};
+use flux_engine::{DiskRoom, RefusedCapture, Stopped, decode_planned, decoding_plan};
 use sector_report::Totals;
 
 /// Decodes all tracks of a disk in order, as `decode_track` does each, and then writes the total line to
@@ -54,25 +54,18 @@ pub fn decode_disk<S: Source, W: Sink, N: Sink>(
 }
 
 /// The answer for a disk of which each track has one stream: its faults name no capture.
-fn engine_answer(answer: Result<Totals, PlanFault>) -> Result<Totals, EngineFault>
+fn engine_answer(answer: Result<Totals, Stopped<RefusedCapture>>) -> Result<Totals, EngineFault>
     ensures { result ≡ engine_answer_of answer }
 {
     match answer {
         Ok(totals) => Ok(totals),
-        Err(PlanFault::ReadFault) => Err(EngineFault::ReadFault),
-        Err(PlanFault::ImageFault) => Err(EngineFault::ImageFault),
-        Err(PlanFault::NotesFault) => Err(EngineFault::NotesFault),
-        Err(
-            PlanFault::Refused {
-                track,
-                block,
-                fault,
-                ..
-            },
-        ) => Err(EngineFault::Refused {
-            track,
-            block,
-            fault,
+        Err(Stopped::ReadFault) => Err(EngineFault::ReadFault),
+        Err(Stopped::ImageFault) => Err(EngineFault::ImageFault),
+        Err(Stopped::NotesFault) => Err(EngineFault::NotesFault),
+        Err(Stopped::Refused(refused)) => Err(EngineFault::Refused {
+            track: refused.track,
+            block: refused.block,
+            fault: refused.fault,
         }),
     }
 }

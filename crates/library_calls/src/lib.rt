@@ -17,7 +17,7 @@ mod track;
 pub use capture::read_capture;
 pub use captured::{captured_disks_decode, written_disks_decode};
 pub use disk::decode_disk;
-pub use fault::EngineFault;
+pub use fault::{EngineFault, SetFault};
 pub use laws::{
     good_is_right, good_is_right_on_disks, lines_tell_verdicts, outcomes_are_one,
     parts_fill_images, parts_stay,

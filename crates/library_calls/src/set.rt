@@ -2,15 +2,16 @@ ghost use Rattle.std.specs.Prelude.{◌≡◌, ◌≤◌, ℕ, List, Some};
 ghost use Rattle.flux_base.specs.Blames.{CountsBy};
 ghost use Rattle.flux_base.specs.World.{counts_at};
 ghost use Rattle.flux_engine.specs.Answers.{Stayed};
-ghost use Rattle.flux_engine.specs.Blamed.{plan_blame};
+ghost use Rattle.flux_engine.specs.Blamed.{stop_blame};
 ghost use Rattle.flux_engine.specs.Needed.{ReadsWhereOpen};
 ghost use Rattle.flux_engine.specs.Room.{fresh};
 ghost use Rattle.kryo_stream.specs.Reads.{reads_at};
-ghost use Rattle.library_calls.specs.SetAnswers.{DecodesSet, IsWholeOrRefused, SaysOfSetInput, SetCause};
+ghost use Rattle.library_calls.specs.SetAnswers.{DecodesSet, IsWholeOrRefused, SaysOfSetInput, SetCause, plan_answer};
 ghost use Rattle.library_calls.specs.Sets.{EndsInCaptures};
 
+use crate::fault::SetFault;
 use flux_base::{Sink, Source};
-use flux_engine::{DiskRoom, PlanFault, decode_planned, set_plan};
+use flux_engine::{DiskRoom, RefusedCapture, Stopped, decode_planned, set_plan};
 use sector_report::Totals;
 
 /// Decodes all tracks of a disk in order, each from so many streams that stand one after another, and then writes the
@@ -25,7 +26,7 @@ pub fn decode_set<S: Source, W: Sink, N: Sink>(
     source: &mut S,
     image: &mut W,
     notes: &mut N,
-) -> Result<Totals, PlanFault>
+) -> Result<Totals, SetFault>
     requires fresh { room.old ≡ fresh room.old.format }
     requires some { 1 ≤ count }
     requires few { count ≤ 16 }
@@ -42,7 +43,7 @@ pub fn decode_set<S: Source, W: Sink, N: Sink>(
 
     ensures cause { SetCause (S.faults source.old) (S.faults source.new) (W.faults image.old) (W.faults image.new)
         (N.faults notes.old) (N.faults notes.new) result }
-    ensures blames { CountsBy (plan_blame result)
+    ensures blames { CountsBy (stop_blame (plan_answer result))
         (counts_at S.Source W.Sink N.Sink source.old image.old notes.old)
         (counts_at S.Source W.Sink N.Sink source.new image.new notes.new) }
 
@@ -54,5 +55,23 @@ pub fn decode_set<S: Source, W: Sink, N: Sink>(
     ensures image_later { W.faults image.old ≤ W.faults image.new }
     ensures notes_later { N.faults notes.old ≤ N.faults notes.new }
 {
-    decode_planned(set_plan(count), room, source, image, notes)
+    set_answer(decode_planned(set_plan(count), room, source, image, notes))
+}
+
+/// The answer for a disk that is read by the plan of a set, as one for the set.
+fn set_answer(answer: Result<Totals, Stopped<RefusedCapture>>) -> Result<Totals, SetFault>
+    ensures { plan_answer result ≡ answer }
+{
+    match answer {
+        Ok(totals) => Ok(totals),
+        Err(Stopped::ReadFault) => Err(SetFault::ReadFault),
+        Err(Stopped::ImageFault) => Err(SetFault::ImageFault),
+        Err(Stopped::NotesFault) => Err(SetFault::NotesFault),
+        Err(Stopped::Refused(refused)) => Err(SetFault::Refused {
+            track: refused.track,
+            capture: refused.capture,
+            block: refused.block,
+            fault: refused.fault,
+        }),
+    }
 }

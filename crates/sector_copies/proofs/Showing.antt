@@ -13,7 +13,7 @@ use Rattle.flux_engine.specs.declared.gathered_track.PassedStream.{PassedStream}
 use Rattle.dump_reading.specs.Files.{ShelfNow}
 use Rattle.dump_reading.specs.Outcomes.{DumpDisk, IsToldEmpty}
 use Rattle.dump_reading.specs.Reports.{passed_lines}
-use Rattle.dump_reading.specs.declared.fault.DumpsFault.TheVariants.{ImageFault, NotesFault}
+use Rattle.flux_engine.specs.declared.fault.Stopped.TheVariants.{ImageFault, NotesFault}
 use Rattle.sector_copies.specs.Copies.{copies_over}
 use Rattle.sector_copies.specs.Notes.{SectorKnown, SectorStandsFor, of_sector}
 use Rattle.sector_copies.specs.Shown.{HasShown, IsSectorShown, SaysOfSector, SectorAsked, SectorShown, image_shown, notes_shown, shown_of}

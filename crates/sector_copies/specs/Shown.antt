@@ -11,14 +11,15 @@ use Rattle.turn_merge.specs.declared.verdict.Verdict.{Verdict}
 use Rattle.flux_engine.specs.LoopProgress.{lost_count}
 use Rattle.flux_engine.specs.Plans.{AreCaptures, Seen, joined, passed_to}
 use Rattle.flux_engine.specs.Recordings.{track_at}
+use Rattle.flux_engine.specs.declared.fault.Stopped.{Stopped}
+use Rattle.flux_engine.specs.declared.fault.Stopped.TheVariants.{ReadFault, ImageFault}
+use Rattle.flux_engine.specs.declared.fault.Stopped.TheVariants.{NotesFault, Refused}
 use Rattle.flux_engine.specs.declared.gathered_track.PassedStream.{PassedStream}
 use Rattle.dump_reading.specs.DumpStreams.{AreOfDumps, HaveComeOf}
 use Rattle.dump_reading.specs.Files.{ShelfNow}
 use Rattle.dump_reading.specs.Outcomes.{DumpDisk, IsToldEmpty}
 use Rattle.dump_reading.specs.Reports.{dump_plan, passed_lines}
-use Rattle.dump_reading.specs.declared.fault.DumpsFault.{DumpsFault}
-use Rattle.dump_reading.specs.declared.fault.DumpsFault.TheVariants.{ImageFault, NoFiles}
-use Rattle.dump_reading.specs.declared.fault.DumpsFault.TheVariants.{NotesFault}
+use Rattle.dump_reading.specs.declared.fault.NoFiles.{NoFiles}
 use Rattle.sector_copies.specs.Copies.{Copy}
 use Rattle.sector_copies.specs.Texts.{copy_at, line_text, sector_text}
 use Rattle.sector_copies.specs.TrackReadings.{TellsOf, of_track, streams_of}
@@ -83,13 +84,16 @@ pub record HasShown (asked : SectorAsked) (start now : ShelfNow) (o : SectorShow
 -- What an answer says. A dump without files is told before anything is read; a file that fails ends
 -- nothing; the notes are written first.
 abbrev pub SaysOfSector : SectorAsked → (start now : ShelfNow)
-    → (image image' notes notes' : Option (List ℕ)) → Result SectorTotals DumpsFault → Type 0
+    → (image image' notes notes' : Option (List ℕ)) → Result SectorTotals (Stopped NoFiles)
+    → Type 0
 SaysOfSector asked start now image image' notes notes' (Ok totals) =
     (o : SectorShown) × HasShown asked start now o × Appends image image' o.image
     × Appends notes notes' o.notes × (totals ≡ o.totals)
-SaysOfSector asked start now image image' notes notes' (Err (NoFiles dump)) =
-    (dump < length asked.disk.dumps) × IsToldEmpty asked.disk start.told.files (Some dump)
-    × (now ≡ start) × (image' ≡ image) × (notes' ≡ notes)
+SaysOfSector asked start now image image' notes notes' (Err ReadFault) = ⊥
+SaysOfSector asked start now image image' notes notes' (Err (Refused empty)) =
+    (empty.dump < length asked.disk.dumps)
+    × IsToldEmpty asked.disk start.told.files (Some empty.dump) × (now ≡ start)
+    × (image' ≡ image) × (notes' ≡ notes)
 SaysOfSector asked start now image image' notes notes' (Err NotesFault) =
     (o : SectorShown) × HasShown asked start now o × (image' ≡ image)
     × AppendsPart notes notes' o.notes

@@ -1,13 +1,13 @@
 //! A sector of a disk that is shown as its dumps have it.
 
 ghost use Rattle.std.specs.Prelude.{◌≡◌, ◌≤◌, ◌++◌, [], length};
-ghost use Rattle.dump_reading.specs.Blamed.{dumps_blame};
 ghost use Rattle.dump_reading.specs.Files.{shelf_at};
 ghost use Rattle.dump_reading.specs.Outcomes.{disk_of};
 ghost use Rattle.dump_reading.specs.Reports.{passed_lines};
 ghost use Rattle.flux_base.specs.Blames.{CountsBy};
 ghost use Rattle.flux_base.specs.Moments.{Puts};
 ghost use Rattle.flux_base.specs.World.{sink_at, sinks_counts};
+ghost use Rattle.flux_engine.specs.Blamed.{sink_blame};
 ghost use Rattle.flux_engine.specs.Counts.{lost_in};
 ghost use Rattle.flux_engine.specs.Recordings.{track_at};
 ghost use Rattle.sector_copies.specs.Notes.{SectorStandsFor};
@@ -19,9 +19,9 @@ use crate::lines::offset_line;
 use crate::printing::write_copies;
 use crate::reading::{SectorRoom, read_sector};
 use crate::totals::SectorTotals;
-use dump_reading::{Dumps, DumpsFault, find_empty, write_passed};
+use dump_reading::{Dumps, NoFiles, find_empty, write_passed};
 use flux_base::{Failed, Sink, write_whole};
-use flux_engine::lost_count;
+use flux_engine::{Stopped, lost_count};
 use sector_report::{Naming, named_line, write_line};
 use track_shelf::Shelf;
 use turn_merge::Verdict;
@@ -39,7 +39,7 @@ pub fn show_sector<H: Shelf, W: Sink, N: Sink>(
     shelf: &mut H,
     image: &mut W,
     notes: &mut N,
-) -> Result<SectorTotals, DumpsFault>
+) -> Result<SectorTotals, Stopped<NoFiles>>
     requires none { SectorStandsFor room.old.known [] }
     requires no_passed { room.old.passed ≡ [] }
     requires few { length dumps.now.names.now ≤ 16 }
@@ -54,23 +54,23 @@ pub fn show_sector<H: Shelf, W: Sink, N: Sink>(
         (W.written image.new) (N.written notes.old) (N.written notes.new) result }
 
     // What the shelf did is in what came of it.
-    ensures blames { CountsBy (dumps_blame result)
+    ensures blames { CountsBy (sink_blame result)
         (sinks_counts W.Sink N.Sink image.old notes.old)
         (sinks_counts W.Sink N.Sink image.new notes.new) }
 {
     match find_empty(dumps, room.format(), shelf) {
         None => {}
-        Some(dump) => return Err(DumpsFault::NoFiles { dump }),
+        Some(dump) => return Err(Stopped::Refused(NoFiles { dump })),
     }
     read_sector(dumps, room, shelf);
     let outcome = room.verdict();
     match write_notes(alone, room, &outcome, notes) {
         Ok(()) => {}
-        Err(Failed) => return Err(DumpsFault::NotesFault),
+        Err(Failed) => return Err(Stopped::NotesFault),
     }
     match write_image(alone, room, &outcome, image) {
         Ok(()) => Ok(totals_of(room)),
-        Err(Failed) => Err(DumpsFault::ImageFault),
+        Err(Failed) => Err(Stopped::ImageFault),
     }
 }
 

@@ -3,7 +3,8 @@ mod disks;
 mod faults;
 
 use flux_base::{MemorySink, MemorySource};
-use g64_image::{FromStop, G64Room, from_g64};
+use flux_engine::Stopped;
+use g64_image::{G64Fault, G64Room, from_g64};
 use sector_report::Totals;
 use std::alloc::Global;
 use std::test::Fail;
@@ -26,7 +27,7 @@ const AMPLE: Outside = Outside {
 /// What a file came to.
 #[derive(Drop)]
 struct Came {
-    answer: Result<Totals, FromStop>,
+    answer: Result<Totals, Stopped<G64Fault>>,
     image: MemorySink,
     notes: MemorySink,
 }

@@ -1,8 +1,8 @@
 //! Disks that are read of their dumps.
 use disk_map::map_dumps;
-use dump_reading::{DumpTotals, Dumps, DumpsFault, read_dumps};
+use dump_reading::{DumpTotals, Dumps, NoFiles, read_dumps};
 use flux_base::{Memory, MemorySink, TrackId, Word};
-use flux_engine::DiskRoom;
+use flux_engine::{DiskRoom, Stopped};
 use sector_images::Format;
 use sector_report::Totals;
 use std::alloc::{AllocError, Global};
@@ -31,7 +31,7 @@ fn files(alloc: Global) -> Result<Vec<ShelfFile>, AllocError> {
 /// What reading came to, and what was written.
 #[derive(Drop)]
 struct Ended {
-    answer: Result<DumpTotals, DumpsFault>,
+    answer: Result<DumpTotals, Stopped<NoFiles>>,
     image: MemorySink,
     notes: MemorySink,
 }
@@ -101,10 +101,10 @@ fn streams_are_passed_over(rt: HostRuntime) -> Result<(), Fail> {
 }
 
 /// The dumps, the calls of the shelf that fail, and why nothing is written. No file is opened before each dump has one.
-const REFUSED: [(&[&str], &[u64], DumpsFault); 3] = [
-    (&["a", "c", "b"], &[], DumpsFault::NoFiles { dump: 1 }),
-    (&["c"], &[], DumpsFault::NoFiles { dump: 0 }),
-    (&["a", "c"], &[0], DumpsFault::NoFiles { dump: 1 }),
+const REFUSED: [(&[&str], &[u64], Stopped<NoFiles>); 3] = [
+    (&["a", "c", "b"], &[], Stopped::Refused(NoFiles { dump: 1 })),
+    (&["c"], &[], Stopped::Refused(NoFiles { dump: 0 })),
+    (&["a", "c"], &[0], Stopped::Refused(NoFiles { dump: 1 })),
 ];
 
 /// The call of the shelf that fails, how many streams are passed over then, and what is told of the track. Of each
@@ -160,7 +160,7 @@ fn draw(
     names: &[&str],
     calls: &[u64],
     writes: &[u64],
-) -> Result<(Result<DumpTotals, DumpsFault>, MemorySink), Memory> {
+) -> Result<(Result<DumpTotals, Stopped<NoFiles>>, MemorySink), Memory> {
     let words = words_of(alloc, names)?;
     let files = files(alloc)?;
     let mut shelf = MemoryShelf::new(&files, 4096, calls);
@@ -209,17 +209,17 @@ fn a_picture_counts_files_that_failed(rt: HostRuntime) -> Result<(), Fail> {
 type Cut = (
     &'static [&'static str],
     &'static [u64],
-    DumpsFault,
+    Stopped<NoFiles>,
     &'static str,
 );
 
 const LAST_FIELD: &str = "<title>00.0 26 missing 0 0\n</title></path>\n";
 
 const CUT: [Cut; 3] = [
-    (&["a", "c"], &[], DumpsFault::NoFiles { dump: 1 }, ""),
-    (&["a", "b"], &[0], DumpsFault::ImageFault, ""),
+    (&["a", "c"], &[], Stopped::Refused(NoFiles { dump: 1 }), ""),
+    (&["a", "b"], &[0], Stopped::ImageFault, ""),
     // Three pieces stand before the fields, of which the first track has 26.
-    (&["a", "b"], &[29], DumpsFault::ImageFault, LAST_FIELD),
+    (&["a", "b"], &[29], Stopped::ImageFault, LAST_FIELD),
 ];
 
 #[test]

@@ -1,8 +1,8 @@
 //! Which disk a dump is of.
 use dump_identity::{Candidate, Finding, Identity, IdentityRoom, identify};
-use dump_reading::{DumpTotals, DumpsFault};
+use dump_reading::{DumpTotals, NoFiles};
 use flux_base::{Memory, MemorySink, MemorySource, TrackId, Word};
-use flux_engine::{WriteRoom, write_disk};
+use flux_engine::{Stopped, WriteRoom, write_disk};
 use ibm_disks::IbmDisk;
 use sector_images::Format;
 use sector_report::Totals;
@@ -30,7 +30,7 @@ fn acorn_track(alloc: Global) -> Result<Vec<u8>, Memory> {
 /// What was said of a dump.
 #[derive(Drop)]
 struct Said {
-    answer: Result<Identity, DumpsFault>,
+    answer: Result<Identity, Stopped<NoFiles>>,
     lines: MemorySink,
 }
 
@@ -115,11 +115,23 @@ const NONE_FAILED: Identity = Identity {
 
 /// The name of the dump, the calls of the shelf that fail, the bytes that the sink takes, what is answered, and what is
 /// written. Each disk opens the file anew.
-const ENDS: [(&str, &[u64], usize, Result<Identity, DumpsFault>, &[u8]); 4] = [
+const ENDS: [(
+    &str,
+    &[u64],
+    usize,
+    Result<Identity, Stopped<NoFiles>>,
+    &[u8],
+); 4] = [
     ("dump", &[], 4096, Ok(NONE), b"best none\n"),
-    ("dump", &[], 3, Err(DumpsFault::ImageFault), b"bes"),
+    ("dump", &[], 3, Err(Stopped::ImageFault), b"bes"),
     ("dump", &[0], 4096, Ok(NONE_FAILED), b"best none\n"),
-    ("none", &[], 4096, Err(DumpsFault::NoFiles { dump: 0 }), b""),
+    (
+        "none",
+        &[],
+        4096,
+        Err(Stopped::Refused(NoFiles { dump: 0 })),
+        b"",
+    ),
 ];
 
 #[test]

@@ -1,7 +1,7 @@
 //! Pictures, and the fields of which they are made.
 use disk_map::{Layout, field_text, foot_text, map_disk};
 use flux_base::{Memory, MemorySink, MemorySource, TrackId};
-use flux_engine::{DiskRoom, PlanFault, decoding_plan};
+use flux_engine::{DiskRoom, RefusedCapture, Stopped, decoding_plan};
 use kryo_stream::StreamFault;
 use sector_images::Format;
 use sector_report::{Totals, refused_line};
@@ -106,7 +106,7 @@ const ONE_TURN: &[u8] =
 /// What drawing a disk came to.
 #[derive(Drop)]
 struct Drawn {
-    answer: Result<Totals, PlanFault>,
+    answer: Result<Totals, Stopped<RefusedCapture>>,
     picture: MemorySink,
 }
 
@@ -125,12 +125,12 @@ fn draw_after(alloc: Global, rest: &[u8]) -> Result<Drawn, Memory> {
 #[test]
 fn a_refused_disk_has_a_whole_picture(rt: HostRuntime) -> Result<(), Fail> {
     let drawn = draw_after(rt.alloc(), b"\x0D\x05\0\0")?;
-    let refused = PlanFault::Refused {
+    let refused = Stopped::Refused(RefusedCapture {
         track: 1,
         capture: 0,
         block: 0,
         fault: StreamFault::UnknownType(5),
-    };
+    });
     assert!(rt; drawn.answer == Err(refused));
     let text = str::from_utf8(drawn.picture.bytes()).unwrap_or("");
     has(

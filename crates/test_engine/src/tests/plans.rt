@@ -2,7 +2,7 @@
 use super::decoding::{PADDED_TURN, TRACK, three_turns};
 use cell_bits::Cells;
 use flux_base::{MemorySink, MemorySource};
-use flux_engine::{Clocks, DiskRoom, Plan, PlanFault, Rule, decode_planned};
+use flux_engine::{Clocks, DiskRoom, Plan, RefusedCapture, Rule, Stopped, decode_planned};
 use frame_law::Recording;
 use ibm_fm::IbmFm;
 use kryo_stream::StreamFault;
@@ -15,7 +15,7 @@ use std::test::Fail;
 /// What reading a disk by the plan came to.
 #[derive(Drop)]
 struct Planned {
-    answer: Result<Totals, PlanFault>,
+    answer: Result<Totals, Stopped<RefusedCapture>>,
     image: MemorySink,
     notes: MemorySink,
 }
@@ -95,12 +95,12 @@ fn a_refusal_names_its_capture(rt: HostRuntime) -> Result<(), Fail> {
     let mut bytes = PADDED_TURN.to_vec(rt.alloc())?;
     bytes.extend_from_slice(b"\x0D\x05\0\0")?;
     let planned = read_planned(rt.alloc(), Rule::Strict, &bytes, 1)?;
-    let refused = PlanFault::Refused {
+    let refused = Stopped::Refused(RefusedCapture {
         track: 1,
         capture: 1,
         block: 0,
         fault: StreamFault::UnknownType(5),
-    };
+    });
     assert_eq!(rt; planned.answer, Err(refused));
     assert_eq!(rt; planned.image.bytes().len(), 3328);
     assert!(rt;

@@ -1,8 +1,8 @@
 //! A disk of 35 tracks as a file and back, and what comes of a file that was changed.
 use super::{AMPLE, Came, Outside, read};
 use flux_base::{MemorySink, MemorySource};
-use flux_engine::WriteFault;
-use g64_image::{FromStop, G64Room, to_g64};
+use flux_engine::{Stopped, WriteFault};
+use g64_image::{G64Fault, G64Room, to_g64};
 use sector_images::Format;
 use std::alloc::Global;
 use std::process::Abort;
@@ -153,13 +153,13 @@ fn an_image_of_another_size(rt: HostRuntime) -> Result<(), Fail> {
 }
 
 /// Why reading the file stopped, the bytes of the image that were written, and how the notes then end.
-const STOPS: &[(Outside, FromStop, usize, &[u8])] = &[
+const STOPS: &[(Outside, Stopped<G64Fault>, usize, &[u8])] = &[
     (
         Outside {
             failing: &[3],
             ..AMPLE
         },
-        FromStop::ReadFault,
+        Stopped::ReadFault,
         0,
         b"",
     ),
@@ -168,7 +168,7 @@ const STOPS: &[(Outside, FromStop, usize, &[u8])] = &[
             image: 6000,
             ..AMPLE
         },
-        FromStop::ImageFault,
+        Stopped::ImageFault,
         6000,
         b"00.0 20 good 1 0 0 58590\n",
     ),
@@ -177,7 +177,7 @@ const STOPS: &[(Outside, FromStop, usize, &[u8])] = &[
             notes: 100,
             ..AMPLE
         },
-        FromStop::NotesFault,
+        Stopped::NotesFault,
         5376,
         b"",
     ),
@@ -196,7 +196,7 @@ fn a_failing_source_and_failing_sinks(rt: HostRuntime) -> Result<(), Fail> {
 }
 
 impl Came {
-    fn stopped(&self, rt: &impl Abort, stop: FromStop, written: usize, last: &[u8]) {
+    fn stopped(&self, rt: &impl Abort, stop: Stopped<G64Fault>, written: usize, last: &[u8]) {
         assert_eq!(rt;
             (self.answer, self.image.bytes().len()),
             (Err(stop), written)

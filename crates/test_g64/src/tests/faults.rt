@@ -1,6 +1,7 @@
 //! Files with a fault, and those at its border.
 use super::{AMPLE, Came, read};
-use g64_image::{FromStop, G64Fault, G64Room, g64_line};
+use flux_engine::Stopped;
+use g64_image::{G64Fault, G64Room, g64_line};
 use sector_images::Format;
 use std::alloc::Global;
 use std::process::Abort;
@@ -152,7 +153,7 @@ const NOTHING: &[u8] = b"total 683 good 0 bad 0 missing 683 contradictory 0\n";
 impl Came {
     /// Compares what a file with this fault came to: nothing was written.
     fn is_refused(&self, rt: &impl Abort, fault: G64Fault, line: &str) {
-        assert_eq!(rt; self.answer, Err(FromStop::Refused(fault)), "at {line}");
+        assert_eq!(rt; self.answer, Err(Stopped::Refused(fault)), "at {line}");
         assert_eq!(rt; self.image.bytes().len(), 0, "at {line}");
         assert_eq!(rt; self.notes.bytes().len(), 0, "at {line}");
         assert_eq!(rt; g64_line(&fault).as_str(), line);

@@ -7,7 +7,7 @@ use Rattle.kryo_stream.specs.Reads.{reads_at}
 use Rattle.sector_images.specs.declared.format.Format.{Format}
 use Rattle.flux_engine.specs.lemmas.Blamed.{CountsBy-unnoted}
 use Rattle.flux_engine.specs.Plans.{EndsInPlan}
-use Rattle.flux_engine.specs.declared.fault.PlanFault.TheVariants.{ImageFault}
+use Rattle.flux_engine.specs.declared.fault.Stopped.TheVariants.{ImageFault}
 use Rattle.flux_engine.specs.lemmas.ReadLaws.{no_reads}
 use Rattle.sector_report.specs.declared.totals.Totals.{Totals}
 use Rattle.disk_map.specs.Progress.{EndsEarly}

@@ -14,9 +14,9 @@ returns-in-Ok g c =
     (same-disk c.args.dump.now c.args.candidate c.from_ref.result.now c.args.disk.now.format c.from_ref.ensures.value (format-of c.args.disk.now c.args.candidate.format c.requires)) _ _ _ _
     c.in-Ok.totals c.in-Ok.ensures.says
 
-pub returns-in-Err-NoFiles : goal.returns-in-Err-NoFiles
-returns-in-Err-NoFiles g c =
-    let e = c.in-Err-NoFiles in
+pub returns-in-Err-Refused : goal.returns-in-Err-Refused
+returns-in-Err-Refused g c =
+    let e = c.in-Err-Refused in
     comes-none c.args.dump.now
     (shelf_at g.H.Source g.H.Shelf c.args.shelf.now)
     (shelf_at g.H.Source g.H.Shelf c.read_dumps_by.new.shelf)

@@ -1,24 +1,25 @@
 use Rattle.std.proofs.Common.{inl, inr}
+use Rattle.flux_engine.specs.declared.track_part.PartFault.TheVariants.{ImageFault, NotesFault}
 use Rattle.dump_reading.specs.Files.{shelf_at}
 use Rattle.dump_reading.specs.Outcomes.{disk_by}
-use Rattle.dump_reading.proofs.Ends.{all-read, beside-wrote, image-wrote, lines-wrote}
+use Rattle.dump_reading.proofs.Ends.{all-read, beside-wrote, cut-wrote}
 use Rattle.dump_reading.proofs.reading.read_dump_tracks.Goals as goal
 
 pub returns-in-Err-ImageFault-clause-err : goal.returns-in-Err-ImageFault-clause-err
 returns-in-Err-ImageFault-clause-err g c =
-    image-wrote (g.O.TrackWriter.part_of c.args.writer.now) (disk_by c.args.clocks c.args.looks c.args.dumps.now c.args.room.now.format)
+    cut-wrote (g.O.TrackWriter.part_of c.args.writer.now) (disk_by c.args.clocks c.args.looks c.args.dumps.now c.args.room.now.format)
     (shelf_at g.H.Source g.H.Shelf c.args.shelf.now)
     (shelf_at g.H.Source g.H.Shelf c.decode_tracks.new.source)
     (g.W.Sink.written c.args.image.now) (g.W.Sink.written c.decode_tracks.new.image) (g.N.Sink.written c.args.notes.now) (g.N.Sink.written c.decode_tracks.new.notes)
-    c.decode_tracks.new.room c.decode_tracks.new.totals (rw c.in-Err-ImageFault.field-0-is at c.in-Err-ImageFault.ensures.err)
+    c.decode_tracks.new.room c.decode_tracks.new.totals ImageFault (rw c.in-Err-ImageFault.field-0-is at c.in-Err-ImageFault.ensures.err)
 
 pub returns-in-Err-NotesFault-clause-err : goal.returns-in-Err-NotesFault-clause-err
 returns-in-Err-NotesFault-clause-err g c =
-    inl (lines-wrote (g.O.TrackWriter.part_of c.args.writer.now) (disk_by c.args.clocks c.args.looks c.args.dumps.now c.args.room.now.format)
+    inl (cut-wrote (g.O.TrackWriter.part_of c.args.writer.now) (disk_by c.args.clocks c.args.looks c.args.dumps.now c.args.room.now.format)
     (shelf_at g.H.Source g.H.Shelf c.args.shelf.now)
     (shelf_at g.H.Source g.H.Shelf c.decode_tracks.new.source)
     (g.W.Sink.written c.args.image.now) (g.W.Sink.written c.decode_tracks.new.image) (g.N.Sink.written c.args.notes.now) (g.N.Sink.written c.decode_tracks.new.notes)
-    c.decode_tracks.new.room c.decode_tracks.new.totals (rw c.in-Err-NotesFault.field-0-is at c.in-Err-NotesFault.ensures.err))
+    c.decode_tracks.new.room c.decode_tracks.new.totals NotesFault (rw c.in-Err-NotesFault.field-0-is at c.in-Err-NotesFault.ensures.err))
 
 pub returns-in-Ok-read_beside-clause-ok : goal.returns-in-Ok-read_beside-clause-ok
 returns-in-Ok-read_beside-clause-ok g c =

@@ -2,7 +2,7 @@ use Rattle.std.proofs.Common.{true, false, Ok, Err, subst}
 use Rattle.std.specs.Io.KnownBytes.{Appends}
 use Rattle.flux_base.specs.Outside.{AppendsPart}
 use Rattle.flux_base.specs.lemmas.Blaming.{CountsBy-notes, CountsBy-then}
-use Rattle.flux_engine.specs.declared.fault.PlanFault.TheVariants.{NotesFault}
+use Rattle.flux_engine.specs.declared.fault.Stopped.TheVariants.{NotesFault}
 use Rattle.flux_engine.specs.Tracks.{part_by}
 use Rattle.flux_engine.proofs.BlamedSteps.{is_finished}
 use Rattle.flux_engine.proofs.PlanDecoding.{planned_all, planned_ends, planned_no_total}
