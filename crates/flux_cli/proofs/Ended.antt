@@ -15,7 +15,7 @@ use Rattle.flux_trial.specs.Tracks.{IsTrialLine}
 use Rattle.flux_engine.specs.declared.write_fault.WriteFault.TheVariants.{WrongSize, ReadFault as ImageUnread, ImageFault as ImageUnwritten}
 use Rattle.g64_image.specs.Answers.{FromAnswer, FromCause, ReadsFile}
 use Rattle.g64_image.specs.Lines.{g64_text}
-use Rattle.g64_image.specs.declared.fault.FromStop.TheVariants.{Refused as FileRefused, ReadFault as FileUnread, ImageFault as FileUnwritten, NotesFault as FileUntold}
+use Rattle.flux_engine.specs.declared.fault.Stopped.TheVariants.{Refused as FileRefused, ReadFault as FileUnread, ImageFault as FileUnwritten, NotesFault as FileUntold}
 use Rattle.index_turns.specs.Track.{TrackState}
 use Rattle.kryo_stream.specs.Outcome.{IsRead}
 use Rattle.kryo_stream.specs.declared.fault.StreamFault.{StreamFault}

@@ -1,9 +1,10 @@
 -- What ends a command, and whom the status that it ends with blames.
 use Rattle.std.proofs.Common.{◌≡◌, ◌==◌, ◌≤◌, ℕ, Bool, true, false, if◌then◌else◌, List, Option, Result, Ok, Err, is_err, sym, subst}
-use Rattle.dump_reading.specs.Blamed.{dumps_blame}
+use Rattle.flux_engine.specs.Blamed.{sink_blame, stop_blame, write_blame}
 use Rattle.dump_reading.specs.Files.{CountsMany}
-use Rattle.dump_reading.specs.declared.fault.DumpsFault.{DumpsFault}
-use Rattle.dump_reading.specs.declared.fault.DumpsFault.TheVariants.{NoFiles, ImageFault as DumpsUnwritten, NotesFault as DumpsUntold}
+use Rattle.dump_reading.specs.declared.fault.NoFiles.{NoFiles}
+use Rattle.flux_engine.specs.declared.fault.Stopped.{Stopped}
+use Rattle.flux_engine.specs.declared.fault.Stopped.TheVariants.{Refused as RefusedInput, ReadFault as Unread, ImageFault as Unwritten, NotesFault as Untold}
 use Rattle.flux_base.specs.Blames.{Blame, CountsBy, OutsideCounts, no_counts, no_one, the_notes, three_counts}
 use Rattle.flux_base.specs.Counts.{Counts, FaultCounts}
 use Rattle.flux_base.specs.Moments.{Moment, Puts}
@@ -13,14 +14,10 @@ use Rattle.flux_base.specs.declared.status.Status.{Status}
 use Rattle.flux_base.specs.declared.status.Status.TheVariants.{AllGood, NotAllGood, Refused, Usage, ReadFault, ImageFault, NotesFault, Memory, ShelfFault}
 use Rattle.flux_base.specs.lemmas.Blaming.{CountsBy-image, CountsBy-notes, CountsBy-then}
 use Rattle.flux_base.specs.lemmas.Counting.{Counts-then}
-use Rattle.flux_engine.specs.Blamed.{plan_blame, write_blame}
 use Rattle.flux_engine.specs.PlanAnswers.{PlanAnswer}
 use Rattle.flux_engine.specs.Writes.{Answer as ImageAnswer}
-use Rattle.flux_engine.specs.declared.fault.PlanFault.TheVariants.{Refused as PlanRefused, ReadFault as PlanUnread, ImageFault as PlanUnwritten, NotesFault as PlanUntold}
 use Rattle.flux_engine.specs.declared.write_fault.WriteFault.TheVariants.{WrongSize, ReadFault as ImageUnread, ImageFault as ImageUnwritten}
 use Rattle.g64_image.specs.Answers.{FromAnswer}
-use Rattle.g64_image.specs.Blamed.{from_blame}
-use Rattle.g64_image.specs.declared.fault.FromStop.TheVariants.{Refused as FileRefused, ReadFault as FileUnread, ImageFault as FileUnwritten, NotesFault as FileUntold}
 use Rattle.sector_report.specs.declared.naming.Naming.{Naming}
 use Rattle.track_shelf.specs.Files.{File}
 use Rattle.flux_cli.proofs.Blaming.{good_blames}
@@ -91,12 +88,12 @@ done-if false false = tt
 
 -- whom an answer blames, its ending does
 module _ {before after : OutsideCounts} where
-  pub plan-blame : (naming : Naming) (answer : PlanAnswer) → CountsBy (plan_blame answer) before after → CountsBy (ending_blame source_blame (plan_ending naming answer)) before after
+  pub plan-blame : (naming : Naming) (answer : PlanAnswer) → CountsBy (stop_blame answer) before after → CountsBy (ending_blame source_blame (plan_ending naming answer)) before after
   plan-blame naming (Ok totals) counts = good_blames (totals.good == totals.sectors) counts
-  plan-blame naming (Err PlanUnread) counts = counts
-  plan-blame naming (Err PlanUnwritten) counts = counts
-  plan-blame naming (Err PlanUntold) counts = counts
-  plan-blame naming (Err (PlanRefused track capture block fault)) counts = counts
+  plan-blame naming (Err Unread) counts = counts
+  plan-blame naming (Err Unwritten) counts = counts
+  plan-blame naming (Err Untold) counts = counts
+  plan-blame naming (Err (RefusedInput stop)) counts = counts
 
   pub image-blame : (answer : ImageAnswer) → CountsBy (write_blame answer) before after → CountsBy (ending_blame source_blame (image_ending answer)) before after
   image-blame (Ok _) counts = counts
@@ -104,17 +101,18 @@ module _ {before after : OutsideCounts} where
   image-blame (Err ImageUnwritten) counts = counts
   image-blame (Err (WrongSize read wanted)) counts = counts
 
-  pub file-blame : (answer : FromAnswer) → CountsBy (from_blame answer) before after → CountsBy (ending_blame source_blame (file_ending answer)) before after
+  pub file-blame : (answer : FromAnswer) → CountsBy (stop_blame answer) before after → CountsBy (ending_blame source_blame (file_ending answer)) before after
   file-blame (Ok totals) counts = good_blames (totals.good == totals.sectors) counts
-  file-blame (Err FileUnread) counts = counts
-  file-blame (Err FileUnwritten) counts = counts
-  file-blame (Err FileUntold) counts = counts
-  file-blame (Err (FileRefused fault)) counts = counts
+  file-blame (Err Unread) counts = counts
+  file-blame (Err Unwritten) counts = counts
+  file-blame (Err Untold) counts = counts
+  file-blame (Err (RefusedInput fault)) counts = counts
 
 -- how often files failed by what was answered of dumps
-abbrev pub AnswersOften : {A : Type 0} → (A → Status) → Result A DumpsFault → (often : ℕ) → Type 0
+abbrev pub AnswersOften : {A : Type 0} → (A → Status) → Result A (Stopped NoFiles) → (often : ℕ) → Type 0
 AnswersOften by (Ok done) often = FailsOften (by done) often
-AnswersOften by (Err (NoFiles number)) often = often ≡ 0
+AnswersOften by (Err (RefusedInput empty)) often = often ≡ 0
+AnswersOften by (Err Unread) often = ⊥
 AnswersOften by (Err fault) often = Unit {0}
 
 -- the counts of all by what was answered of them, and by how often files failed
@@ -144,14 +142,15 @@ module _ {A N : Type 0} (told : Option (List File)) (dumps : List (List ℕ)) {s
   refused-on line Memory none counts never = absurd never
   refused-on line ShelfFault none counts never = absurd never
 
-  pub dumps-blame : (answer : Result A DumpsFault) → AnswersOften by answer often
-      → CountsBy (dumps_blame answer) (three_counts no_counts image notes) (three_counts no_counts image' before.counts)
+  pub dumps-blame : (answer : Result A (Stopped NoFiles)) → AnswersOften by answer often
+      → CountsBy (sink_blame answer) (three_counts no_counts image notes) (three_counts no_counts image' before.counts)
       → EndsDumps told dumps by answer status before after → CountsOnShelf true status (three_counts shelf image notes) (three_counts shelf' image' after.counts)
   dumps-blame (Ok done) fails counts is = ends-with (λ (s : Status) (n : Moment N). CountsOnShelf true s (three_counts shelf image notes) (three_counts shelf' image' n.counts)) (by done) status before after (done-on (by done) (done_is done) fails counts) is
-  dumps-blame (Err (NoFiles number)) fails counts is = refused-on is.line status fails counts is.ends
-  dumps-blame (Err DumpsUnwritten) fails counts is =
+  dumps-blame (Err Unread) never counts is = absurd never
+  dumps-blame (Err (RefusedInput empty)) fails counts is = refused-on is.line status fails counts is.ends
+  dumps-blame (Err Unwritten) fails counts is =
       ends-with (λ (s : Status) (n : Moment N). CountsOnShelf true s (three_counts shelf image notes) (three_counts shelf' image' n.counts)) ImageFault status before after (record { shelf = (often, tt, many); image = counts.image; notes = counts.notes }) is.ends
-  dumps-blame (Err DumpsUntold) fails counts is =
+  dumps-blame (Err Untold) fails counts is =
       ends-with (λ (s : Status) (n : Moment N). CountsOnShelf true s (three_counts shelf image notes) (three_counts shelf' image' n.counts)) NotesFault status before after (record { shelf = (often, tt, many); image = counts.image; notes = counts.notes }) is.ends
 
 -- what a command over the source ends with where it had its memory
@@ -186,18 +185,19 @@ module _ {N : Type 0} (before after : Moment N) (status : Status) where
       either : (b : Bool) → IsOverSource (if b then AllGood else NotAllGood)
       either true = tt
       either false = tt
-  plan-over-source naming (Err PlanUnread) is = ends-with (λ (s : Status) (n : Moment N). IsOverSource s) ReadFault status before after tt is
-  plan-over-source naming (Err PlanUnwritten) is = ends-with (λ (s : Status) (n : Moment N). IsOverSource s) ImageFault status before after tt is
-  plan-over-source naming (Err PlanUntold) is = ends-with (λ (s : Status) (n : Moment N). IsOverSource s) NotesFault status before after tt is
-  plan-over-source naming (Err (PlanRefused track capture block fault)) is =
+  plan-over-source naming (Err Unread) is = ends-with (λ (s : Status) (n : Moment N). IsOverSource s) ReadFault status before after tt is
+  plan-over-source naming (Err Unwritten) is = ends-with (λ (s : Status) (n : Moment N). IsOverSource s) ImageFault status before after tt is
+  plan-over-source naming (Err Untold) is = ends-with (λ (s : Status) (n : Moment N). IsOverSource s) NotesFault status before after tt is
+  plan-over-source naming (Err (RefusedInput stop)) is =
       ended-by-line _ IsOverSource tt tt is
 
-  pub shelf-over-shelf : {A : Type 0} (told : Option (List File)) (dumps : List (List ℕ)) (by : A → Status) → ((done : A) → IsDone (by done)) → (answer : Result A DumpsFault)
+  pub shelf-over-shelf : {A : Type 0} (told : Option (List File)) (dumps : List (List ℕ)) (by : A → Status) → ((done : A) → IsDone (by done)) → (answer : Result A (Stopped NoFiles))
       → EndsDumps told dumps by answer status before after → IsOverShelf status
   shelf-over-shelf told dumps by done_is (Ok done) is = ends-with (λ (s : Status) (n : Moment N). IsOverShelf s) _ status before after (done-over-shelf (by done) (done_is done)) is
-  shelf-over-shelf told dumps by done_is (Err DumpsUnwritten) is = ends-with (λ (s : Status) (n : Moment N). IsOverShelf s) ImageFault status before after tt is.ends
-  shelf-over-shelf told dumps by done_is (Err DumpsUntold) is = ends-with (λ (s : Status) (n : Moment N). IsOverShelf s) NotesFault status before after tt is.ends
-  shelf-over-shelf told dumps by done_is (Err (NoFiles dump)) is = ended-by-line _ IsOverShelf tt tt is.ends
+  shelf-over-shelf told dumps by done_is (Err Unwritten) is = ends-with (λ (s : Status) (n : Moment N). IsOverShelf s) ImageFault status before after tt is.ends
+  shelf-over-shelf told dumps by done_is (Err Untold) is = ends-with (λ (s : Status) (n : Moment N). IsOverShelf s) NotesFault status before after tt is.ends
+  shelf-over-shelf told dumps by done_is (Err Unread) is = ends-with (λ (s : Status) (n : Moment N). IsOverShelf s) ShelfFault status before after tt is.ends
+  shelf-over-shelf told dumps by done_is (Err (RefusedInput empty)) is = ended-by-line _ IsOverShelf tt tt is.ends
 
 -- what is written to the image alone
 pub written-blame : {source image image' notes : FaultCounts} (answer : Result (Unit {0}) Failed) → Counts (is_err answer) image image'

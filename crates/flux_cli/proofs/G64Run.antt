@@ -8,11 +8,12 @@ use Rattle.std.specs.Io.KnownBytes.{Appends, IsAtEnd, Keeps}
 use Rattle.flux_base.specs.declared.status.Status.TheVariants.{AllGood, NotAllGood, Refused as RefusedStatus, ReadFault as ReadFaultStatus, ImageFault as ImageFaultStatus, NotesFault as NotesFaultStatus}
 use Rattle.flux_engine.specs.Disks.{report_over}
 use Rattle.flux_engine.specs.Needed.{ReadsUpTo, ReadsWhereOpen}
-use Rattle.g64_image.specs.Answers.{IsTakenFile, IsWholeFile, ReadsFile, StoppedInImage}
+use Rattle.g64_image.specs.Answers.{FileCutInTrack, IsTakenFile, IsWholeFile, ReadsFile}
 use Rattle.g64_image.specs.Faults.{MOST_BYTES, first_fault, table_fault}
 use Rattle.g64_image.specs.FileDisks.{FileDisk, IsFileDisk, read_count}
 use Rattle.g64_image.specs.Lines.{g64_text}
-use Rattle.g64_image.specs.declared.fault.FromStop.TheVariants.{ReadFault, ImageFault, NotesFault, Refused}
+use Rattle.flux_engine.specs.declared.track_part.PartFault.TheVariants.{ImageFault as PartImageFault}
+use Rattle.flux_engine.specs.declared.fault.Stopped.TheVariants.{ReadFault, ImageFault, NotesFault, Refused}
 use Rattle.g64_image.specs.declared.fault.G64Fault.{G64Fault}
 use Rattle.g64_image.specs.declared.fault.G64Fault.TheVariants.{TooLarge}
 use Rattle.kryo_stream.specs.Reads.{SourceMoment}
@@ -137,7 +138,7 @@ module _ {S W N : Type 0} (format : Format) (before after : Outside S W N) where
         taken = f.taken;
         later = r.later;
         input = r.input;
-        place = (is.1, subst (λ x. StoppedInImage format x before.image.bytes after.image.bytes before.notes.bytes after.notes.bytes) is.0 f.says.1);
+        place = (is.1, subst (λ x. FileCutInTrack PartImageFault format x before.image.bytes after.image.bytes before.notes.bytes after.notes.bytes) is.0 f.says.1);
       }
 
   -- the sink of the notes failed in the report

@@ -4,7 +4,8 @@ use Rattle.std.proofs.Common.{ap, arith, inl, inr, sym, subst, ◌∙◌, append
 use Rattle.std.proofs.lemmas.Bool.{eq-eqb}
 use Rattle.flux_base.specs.declared.status.Status.{Status}
 use Rattle.flux_base.specs.declared.status.Status.TheVariants.{AllGood, NotAllGood, Refused, Usage, ReadFault, ImageFault, NotesFault, Memory, ShelfFault}
-use Rattle.flux_engine.specs.Plans.{IsPlanned, PlanStop, Planned, streams_in}
+use Rattle.flux_engine.specs.declared.fault.RefusedCapture.{RefusedCapture}
+use Rattle.flux_engine.specs.Plans.{IsPlanned, Planned, streams_in}
 use Rattle.flux_engine.specs.Tracks.{part_by}
 use Rattle.flux_engine.specs.declared.plan.Plan.{Plan}
 use Rattle.flux_engine.specs.declared.plan.Rule.TheVariants.{Strict}
@@ -81,7 +82,7 @@ module _ (output : Output) (plan : Plan) (format : Format) (d : Planned) (o : Ou
     planned = d;
     image_is = ap (λ (p : Outcome). p.image) is;
     notes_are =
-        ap (λ (p : Outcome). p.notes) is ∙ ap (λ (s : Option PlanStop). to_notes output d ++ planned_refusal plan.naming s) none ∙ append-nil (to_notes output d);
+        ap (λ (p : Outcome). p.notes) is ∙ ap (λ (s : Option RefusedCapture). to_notes output d ++ planned_refusal plan.naming s) none ∙ append-nil (to_notes output d);
     holds = holds;
   }
 

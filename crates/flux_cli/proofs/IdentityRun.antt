@@ -10,8 +10,9 @@ use Rattle.dump_identity.specs.declared.finding.Finding.{Finding}
 use Rattle.dump_identity.specs.declared.identity.Identity.{Identity}
 use Rattle.dump_reading.specs.Files.{CountsMany, ShelfNow}
 use Rattle.dump_reading.specs.Outcomes.{DumpsRead}
-use Rattle.dump_reading.specs.declared.fault.DumpsFault.{DumpsFault}
-use Rattle.dump_reading.specs.declared.fault.DumpsFault.TheVariants.{NoFiles, ImageFault, NotesFault}
+use Rattle.dump_reading.specs.declared.fault.NoFiles.{NoFiles}
+use Rattle.flux_engine.specs.declared.fault.Stopped.{Stopped}
+use Rattle.flux_engine.specs.declared.fault.Stopped.TheVariants.{ReadFault, ImageFault, NotesFault, Refused}
 use Rattle.dump_reading.specs.declared.totals.DumpTotals.{DumpTotals}
 use Rattle.dump_reading.specs.lemmas.Coming.{failed-both, none-failed}
 use Rattle.flux_base.specs.declared.status.Status.TheVariants.{AllGood, NotAllGood, ShelfFault}
@@ -93,7 +94,7 @@ module _ (dump : List ℕ) where
   all_lost (f ∷ findings) start now (next, comes, are) =
       both_lost (has_failed f) (list_any has_failed findings) start next now (one_lost start next f.candidate f.totals comes) (all_lost findings next now are)
 
-  pub identity-failed : (start now : ShelfNow) (lines lines' : Option (List ℕ)) (answer : Result Identity DumpsFault) → SaysOfIdentity dump start now lines lines' answer
+  pub identity-failed : (start now : ShelfNow) (lines lines' : Option (List ℕ)) (answer : Result Identity (Stopped NoFiles)) → SaysOfIdentity dump start now lines lines' answer
       → Failed identity_status start now answer
   identity-failed start now lines lines' (Ok identity) says =
       let lost : Lost (list_any has_failed says.is.findings) start now = all_lost says.is.findings start now says.is.all.are in
@@ -105,7 +106,8 @@ module _ (dump : List ℕ) where
         paths = lost.paths;
         told = lost.told;
       }
-  identity-failed start now lines lines' (Err (NoFiles number)) says = still-failed identity_status start now number says.2
+  identity-failed start now lines lines' (Err (Refused empty)) says = still-failed identity_status start now empty says.2
+  identity-failed start now lines lines' (Err ReadFault) never = absurd never
   identity-failed start now lines lines' (Err ImageFault) says =
       elim says [
         | inl line ↦ (let lost = all_lost _ start now line.first.are in record { often = lost.often; fails = tt; many = lost.many; paths = lost.paths; told = lost.told })
@@ -113,7 +115,7 @@ module _ (dump : List ℕ) where
       ]
   identity-failed start now lines lines' (Err NotesFault) says = absurd says
 
-pub identity-answers : (dump : List ℕ) (start now : ShelfNow) (image notes : Growth) (answer : Result Identity DumpsFault)
+pub identity-answers : (dump : List ℕ) (start now : ShelfNow) (image notes : Growth) (answer : Result Identity (Stopped NoFiles))
     → SaysOfIdentity dump start now image.before image.after answer → notes.after ≡ notes.before
     → Answers (identity_work dump) (dump ∷ []) start now image notes identity_status answer
 identity-answers dump start now image notes (Ok identity) says same = record {
@@ -123,15 +125,16 @@ identity-answers dump start now image notes (Ok identity) says same = record {
   image_got = says.grew;
   notes_got = same-nothing notes.before notes.after same;
 }
-identity-answers dump start now image notes (Err (NoFiles number)) says same = record {
+identity-answers dump start now image notes (Err (Refused empty)) says same = record {
   is = λ line tells. inl (line, said line tells, refl);
   image_got = kept-nothing image.before image.after says.3;
   same = same;
   cut = λ line tells after part. (line, said line tells, says.3, part);
 }
   where
-    said : (line : List ℕ) → TellsEmpty start.told.files (dump ∷ []) number line → EmptyDump dump start now line
+    said : (line : List ℕ) → TellsEmpty start.told.files (dump ∷ []) empty.dump line → EmptyDump dump start now line
     said line tells = record { is = says.1; still = says.2; tells = subst (λ (n : ℕ). TellsEmpty start.told.files (dump ∷ []) n line) says.0 tells }
+identity-answers dump start now image notes (Err ReadFault) never same = absurd never
 identity-answers dump start now image notes (Err ImageFault) says same = (says, same-kept notes.before notes.after same)
 identity-answers dump start now image notes (Err NotesFault) says same = absurd says
 

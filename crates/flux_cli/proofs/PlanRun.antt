@@ -10,13 +10,13 @@ use Rattle.flux_base.specs.declared.status.Status.{Status}
 use Rattle.flux_base.specs.declared.status.Status.TheVariants.{AllGood, NotAllGood, Refused as RefusedStatus, ReadFault as ReadFaultStatus, ImageFault as ImageFaultStatus, NotesFault as NotesFaultStatus}
 use Rattle.flux_base.specs.lemmas.Counting.{Counts-none}
 use Rattle.flux_engine.specs.Answers.{IsTakenBehind}
-use Rattle.flux_engine.specs.Blamed.{plan_blame}
+use Rattle.flux_engine.specs.Blamed.{stop_blame}
 use Rattle.flux_engine.specs.PlanAnswers.{DecodesPlanned, PlanAnswer}
-use Rattle.flux_engine.specs.Plans.{PlanStop, Planned, StopsAt, streams_in}
+use Rattle.flux_engine.specs.declared.fault.RefusedCapture.{RefusedCapture}
+use Rattle.flux_engine.specs.Plans.{Planned, StopsAt, streams_in}
 use Rattle.flux_engine.specs.Tracks.{part_by}
-use Rattle.flux_engine.specs.declared.fault.PlanFault.TheVariants.{ReadFault, ImageFault, NotesFault, Refused}
+use Rattle.flux_engine.specs.declared.fault.Stopped.TheVariants.{ReadFault, ImageFault, NotesFault, Refused}
 use Rattle.flux_engine.specs.declared.plan.Plan.{Plan}
-use Rattle.kryo_stream.specs.declared.fault.StreamFault.{StreamFault}
 use Rattle.kryo_stream.specs.declared.fault.StreamFault.TheVariants.{Truncated}
 use Rattle.sector_images.specs.Places.{tracks}
 use Rattle.sector_images.specs.declared.format.Format.{Format}
@@ -44,10 +44,10 @@ abbrev pub SaysTo : Plan → Output → Format → (taken later : List ℕ) → 
 SaysTo plan output format taken later image notes (Ok totals) =
     (d : Planned) × IsRead plan output format (taken ++ later) d × GotAll output format d image notes × (d.stop ≡ None) × (totals ≡ d.totals)
     × IsTakenBehind (taken ++ later) later (length (tracks format) * plan.captures) 4096
-SaysTo plan output format taken later image notes (Err (Refused track capture block fault)) =
+SaysTo plan output format taken later image notes (Err (Refused stop)) =
     (d : Planned) × IsRead plan output format (taken ++ later) d × GotAll output format d image notes
-    × (d.stop ≡ Some (record { track = track; capture = capture; block = block; fault = fault }))
-    × IsTakenBehind (taken ++ later) later (track * plan.captures + capture) MOST_AT_ONCE
+    × (d.stop ≡ Some stop)
+    × IsTakenBehind (taken ++ later) later (stop.track * plan.captures + stop.capture) MOST_AT_ONCE
 SaysTo plan output format taken later image notes (Err ReadFault) = CutInReading plan output format taken image notes
 SaysTo plan output format taken later image notes (Err ImageFault) = CutByImage plan output format (taken ++ later) later image notes
 SaysTo plan output format taken later image notes (Err NotesFault) = CutByNotes plan output format (taken ++ later) later image notes
@@ -58,11 +58,11 @@ pub record ReadsTo {S W N : Type 0} (plan : Plan) (output : Output) (format : Fo
   pub later : List ℕ
   pub input : IsInput before.source after.source taken later
   pub says : SaysTo plan output format taken later (growth before.image after.image) (growth before.notes after.notes) answer
-  pub blames : CountsBy (plan_blame answer) (three_counts before.source.counts before.image.counts before.notes.counts) (three_counts after.source.counts after.image.counts after.notes.counts)
+  pub blames : CountsBy (stop_blame answer) (three_counts before.source.counts before.image.counts before.notes.counts) (three_counts after.source.counts after.image.counts after.notes.counts)
   pub needed : WasReadWhereNeeded (planned_work plan output format) before after
 
 -- the source failed: what was taken is all that it gave
-cut-reading : (plan : Plan) (output : Output) (format : Format) (taken : List ℕ) (image notes : Growth) (d : Planned) (stop : PlanStop)
+cut-reading : (plan : Plan) (output : Output) (format : Format) (taken : List ℕ) (image notes : Growth) (d : Planned) (stop : RefusedCapture)
     → IsRead plan output format (taken ++ []) d → d.stop ≡ Some stop → stop.fault ≡ Truncated → Got image (to_image_cut output format d) → Got notes (to_notes output d)
     → CutInReading plan output format taken image notes
 cut-reading plan output format taken image notes d stop is stops cut_short image_got notes_got = record {
@@ -81,13 +81,13 @@ calm = record { faults = 0; failed = Some 0 }
 
 -- a fault of the report's sink is one of the image's
 pub report-blames : {source source' image image' : FaultCounts} (notes : FaultCounts) (answer : PlanAnswer)
-    → CountsBy (plan_blame answer) (three_counts source calm image) (three_counts source' calm image')
-    → CountsBy (plan_blame (in_image answer)) (three_counts source image notes) (three_counts source' image' notes)
+    → CountsBy (stop_blame answer) (three_counts source calm image) (three_counts source' calm image')
+    → CountsBy (stop_blame (in_image answer)) (three_counts source image notes) (three_counts source' image' notes)
 report-blames notes (Ok totals) counts = record { source = counts.source; image = counts.notes; notes = Counts-none notes }
 report-blames notes (Err ReadFault) counts = record { source = counts.source; image = counts.notes; notes = Counts-none notes }
 report-blames notes (Err ImageFault) counts = absurd (omega (arith, counts.image.cause))
 report-blames notes (Err NotesFault) counts = record { source = counts.source; image = counts.notes; notes = Counts-none notes }
-report-blames notes (Err (Refused track capture block fault)) counts = record { source = counts.source; image = counts.notes; notes = Counts-none notes }
+report-blames notes (Err (Refused stop)) counts = record { source = counts.source; image = counts.notes; notes = Counts-none notes }
 
 module _ {S W N : Type 0} (plan : Plan) (format : Format) (before after : Outside S W N) where
   -- the image and the report
@@ -98,7 +98,7 @@ module _ {S W N : Type 0} (plan : Plan) (format : Format) (before after : Outsid
   says-both (Ok totals) d r =
       let s = d.says r.later (λ never. absurd never) in
       (s.0, s.1.decoded, record { image_got = s.1.image_grew; notes_got = s.1.notes_grew }, s.2, s.3, s.4)
-  says-both (Err (Refused track capture block fault)) d r =
+  says-both (Err (Refused stop)) d r =
       let s = d.says r.later (λ cut. r.ended (d.ended cut)) in
       (s.0, s.1.decoded, record { image_got = s.1.image_grew; notes_got = s.1.notes_grew }, s.2, s.3)
   says-both (Err ReadFault) d r =
@@ -109,7 +109,7 @@ module _ {S W N : Type 0} (plan : Plan) (format : Format) (before after : Outsid
 
   pub reads-both : (answer : PlanAnswer)
       → DecodesPlanned plan (part_by plan.naming) format before.source.bytes after.source.bytes before.image.bytes after.image.bytes before.notes.bytes after.notes.bytes answer
-      → CountsBy (plan_blame answer) (three_counts before.source.counts before.image.counts before.notes.counts) (three_counts after.source.counts after.image.counts after.notes.counts)
+      → CountsBy (stop_blame answer) (three_counts before.source.counts before.image.counts before.notes.counts) (three_counts after.source.counts after.image.counts after.notes.counts)
       → WasReadWhereNeeded (planned_work plan ImageAndReport format) before after → ReadsTo plan ImageAndReport format before after answer
   reads-both answer d blames needed =
       let r = rest before.source after.source d.taken d.consumed in
@@ -120,13 +120,13 @@ module _ {S W N : Type 0} (plan : Plan) (format : Format) (before : Outside S W 
   abbrev DecodesReport : PlanAnswer → Type 0
   DecodesReport answer = DecodesPlanned plan (part_by plan.naming) format before.source.bytes source.bytes None None before.image.bytes image.bytes answer
 
-  says-report : (answer : PlanAnswer) → CountsBy (plan_blame answer) (three_counts before.source.counts calm before.image.counts) (three_counts source.counts calm image.counts)
+  says-report : (answer : PlanAnswer) → CountsBy (stop_blame answer) (three_counts before.source.counts calm before.image.counts) (three_counts source.counts calm image.counts)
       → (d : DecodesReport answer) → (r : Rest before.source source d.taken)
       → SaysTo plan ReportAlone format d.taken r.later (growth before.image image) (growth before.notes before.notes) (in_image answer)
   says-report (Ok totals) counts d r =
       let s = d.says r.later (λ never. absurd never) in
       (s.0, s.1.decoded, record { image_got = s.1.notes_grew; notes_got = Appends-nil before.notes.bytes }, s.2, s.3, s.4)
-  says-report (Err (Refused track capture block fault)) counts d r =
+  says-report (Err (Refused stop)) counts d r =
       let s = d.says r.later (λ cut. r.ended (d.ended cut)) in
       (s.0, s.1.decoded, record { image_got = s.1.notes_grew; notes_got = Appends-nil before.notes.bytes }, s.2, s.3)
   says-report (Err ReadFault) counts d r =
@@ -136,7 +136,7 @@ module _ {S W N : Type 0} (plan : Plan) (format : Format) (before : Outside S W 
   says-report (Err NotesFault) counts d r = (d.says r.later (λ never. absurd never), Keeps-refl before.notes.bytes)
 
   pub reads-report : (answer : PlanAnswer) → DecodesReport answer
-      → CountsBy (plan_blame answer) (three_counts before.source.counts calm before.image.counts) (three_counts source.counts calm image.counts)
+      → CountsBy (stop_blame answer) (three_counts before.source.counts calm before.image.counts) (three_counts source.counts calm image.counts)
       → WasReadWhereNeeded (planned_work plan ReportAlone format) before (outside source given image before.notes)
       → ReadsTo plan ReportAlone format before (outside source given image before.notes) (in_image answer)
   reads-report answer d blames needed =
@@ -152,7 +152,7 @@ module _ {S W N : Type 0} (plan : Plan) (format : Format) (before : Outside S W 
   says-picture (Ok totals) d r =
       let s = d.says r.later (λ never. absurd never) in
       (s.0, s.1.drawn, record { image_got = s.1.grew; notes_got = Appends-nil before.notes.bytes }, s.2, s.3, s.4)
-  says-picture (Err (Refused track capture block fault)) d r =
+  says-picture (Err (Refused stop)) d r =
       let s = d.says r.later (λ cut. r.ended (d.ended cut)) in
       (s.0, s.1.drawn, record { image_got = s.1.grew; notes_got = Appends-nil before.notes.bytes }, s.2, s.3)
   says-picture (Err ReadFault) d r =
@@ -162,7 +162,7 @@ module _ {S W N : Type 0} (plan : Plan) (format : Format) (before : Outside S W 
   says-picture (Err NotesFault) d r = absurd (d.says [] (λ _. refl))
 
   pub reads-picture : (answer : PlanAnswer) → Maps answer
-      → CountsBy (plan_blame answer) (three_counts before.source.counts before.image.counts no_counts) (three_counts source.counts image.counts no_counts)
+      → CountsBy (stop_blame answer) (three_counts before.source.counts before.image.counts no_counts) (three_counts source.counts image.counts no_counts)
       → WasReadWhereNeeded (planned_work plan Picture format) before (outside source given image before.notes)
       → ReadsTo plan Picture format before (outside source given image before.notes) answer
   reads-picture answer d blames needed =
@@ -213,10 +213,7 @@ module _ {S W N : Type 0} (plan : Plan) (output : Output) (format : Format) (bef
         by false done = did (Ok totals) NotAllGood (at mid) t tt done
 
     -- the line of the refusal stands after all that was written
-    module _ (mid after : Moment N) (track capture block : ℕ) (fault : StreamFault) (t : Reads (at mid) (Err (Refused track capture block fault))) where
-      abbrev stop : PlanStop
-      stop = record { track = track; capture = capture; block = block; fault = fault }
-
+    module _ (mid after : Moment N) (stop : RefusedCapture) (t : Reads (at mid) (Err (Refused stop))) where
       all_counts : mid.counts.faults ≤ after.counts.faults → NoCountFell before (at after)
       all_counts later = record { source = t.blames.source.later; image = t.blames.image.later; notes = omega (arith, t.blames.notes.later, later) }
 
@@ -281,9 +278,9 @@ module _ {S W N : Type 0} (plan : Plan) (output : Output) (format : Format) (bef
     ended (Err NotesFault) status mid after t is =
         ends-with Did NotesFaultStatus status mid after (did (Err NotesFault) NotesFaultStatus (at mid) t tt
         (record { taken = t.taken; later = t.later; input = t.input; place = inl t.says }, t.blames.notes.cause)) is
-    ended (Err (Refused track capture block fault)) status mid after t is =
+    ended (Err (Refused stop)) status mid after t is =
         ends-refused Did (stop_text plan.naming (record { track = track; capture = capture; block = block; fault = fault })) status mid after
-        (planned-refused mid after track capture block fault t) (planned-cut-refusal mid after track capture block fault t) is
+        (planned-refused mid after stop t) (planned-cut-refusal mid after stop t) is
 
 -- for all objects
 pub plan-ended : {S W N : Type 0} (plan : Plan) (output : Output) (format : Format) (before : Outside S W N) (source : Moment S) (given : Option (List (List ℕ))) (image : Moment W)

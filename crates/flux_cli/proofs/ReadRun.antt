@@ -8,8 +8,9 @@ use Rattle.dump_reading.specs.Files.{CountsMany, ShelfNow}
 use Rattle.dump_reading.specs.Outcomes.{DumpDisk, DumpsRead, FilesFailed, IsReadBy, SaysOfDumps, report_of}
 use Rattle.dump_reading.specs.Reports.{read_part}
 use Rattle.dump_reading.specs.Totals.{is_complete}
-use Rattle.dump_reading.specs.declared.fault.DumpsFault.{DumpsFault}
-use Rattle.dump_reading.specs.declared.fault.DumpsFault.TheVariants.{NoFiles, ImageFault, NotesFault}
+use Rattle.dump_reading.specs.declared.fault.NoFiles.{NoFiles}
+use Rattle.flux_engine.specs.declared.fault.Stopped.{Stopped}
+use Rattle.flux_engine.specs.declared.fault.Stopped.TheVariants.{ReadFault, ImageFault, NotesFault, Refused}
 use Rattle.dump_reading.specs.declared.totals.DumpTotals.{DumpTotals}
 use Rattle.dump_reading.specs.lemmas.Coming.{none-failed}
 use Rattle.flux_base.specs.declared.status.Status.{Status}
@@ -46,33 +47,35 @@ read_often totals often same =
     (often-if (nat_lt 0 totals.lost) _ totals.lost (fails-by totals.lost) (λ none. often-either (is_complete totals) totals.lost none))
 
 -- what the shelf did: so many files failed, and nothing else of it changed
-pub record Failed {A : Type 0} (by : A → Status) (start now : ShelfNow) (answer : Result A DumpsFault) : Type 0 where
+pub record Failed {A : Type 0} (by : A → Status) (start now : ShelfNow) (answer : Result A (Stopped NoFiles)) : Type 0 where
   pub often : ℕ
   pub fails : AnswersOften by answer often
   pub many : CountsMany often start.counts now.counts
   pub paths : List (List ℕ)
   pub told : now.told ≡ with_failed paths start.told
 
-pub still-failed : {A : Type 0} (by : A → Status) (start now : ShelfNow) (number : ℕ) → now ≡ start → Failed by start now (Err (NoFiles number))
-still-failed by start now number still =
-    subst (λ (s : ShelfNow). Failed by start s (Err (NoFiles number))) (sym still)
+pub still-failed : {A : Type 0} (by : A → Status) (start now : ShelfNow) (empty : NoFiles) → now ≡ start → Failed by start now (Err (Refused empty))
+still-failed by start now empty still =
+    subst (λ (s : ShelfNow). Failed by start s (Err (Refused empty))) (sym still)
     (record { often = 0; fails = refl; many = many-none start.counts; paths = []; told = none-failed start.told })
 
 -- What an answer over dumps tells of the shelf: the files of the streams that came failed which are passed over for that, and the numbers count them.
-abbrev pub ShelfDid : DumpDisk → (start now : ShelfNow) → Result DumpTotals DumpsFault → Type 0
+abbrev pub ShelfDid : DumpDisk → (start now : ShelfNow) → Result DumpTotals (Stopped NoFiles) → Type 0
 ShelfDid disk start now (Ok totals) =
     (came : List Seen × List Seen) × FilesFailed disk start now came.0 came.1 × (totals.lost ≡ lost_count came.0 + lost_count came.1)
-ShelfDid disk start now (Err (NoFiles number)) = now ≡ start
+ShelfDid disk start now (Err (Refused empty)) = now ≡ start
+ShelfDid disk start now (Err ReadFault) = ⊥
 ShelfDid disk start now (Err fault) = (came : List Seen × List Seen) × FilesFailed disk start now came.0 came.1
 
-pub files-failed : (disk : DumpDisk) (start now : ShelfNow) (answer : Result DumpTotals DumpsFault) → ShelfDid disk start now answer → Failed read_status start now answer
+pub files-failed : (disk : DumpDisk) (start now : ShelfNow) (answer : Result DumpTotals (Stopped NoFiles)) → ShelfDid disk start now answer → Failed read_status start now answer
 files-failed disk start now (Ok totals) (came, shelf, lost) = record { often = _; fails = read_often totals _ lost; many = shelf.counts; paths = _; told = shelf.told }
-files-failed disk start now (Err (NoFiles number)) still = still-failed read_status start now number still
+files-failed disk start now (Err (Refused empty)) still = still-failed read_status start now empty still
+files-failed disk start now (Err ReadFault) never = absurd never
 files-failed disk start now (Err ImageFault) (came, shelf) = record { often = _; fails = tt; many = shelf.counts; paths = _; told = shelf.told }
 files-failed disk start now (Err NotesFault) (came, shelf) = record { often = _; fails = tt; many = shelf.counts; paths = _; told = shelf.told }
 
 module _ (disk : DumpDisk) (start now : ShelfNow) (image notes : Growth) where
-  pub read-answers : (answer : Result DumpTotals DumpsFault) → SaysOfDumps disk start now image.before image.after notes.before notes.after answer
+  pub read-answers : (answer : Result DumpTotals (Stopped NoFiles)) → SaysOfDumps disk start now image.before image.after notes.before notes.after answer
       → Answers (read_work Image disk) disk.dumps start now image notes read_status answer
   read-answers (Ok totals) says = record {
     outcome = read_outcome says.1.outcome;
@@ -81,23 +84,25 @@ module _ (disk : DumpDisk) (start now : ShelfNow) (image notes : Growth) where
     image_got = says.1.image_grew;
     notes_got = says.1.notes_grew;
   }
-  read-answers (Err (NoFiles number)) says =
-      none-of-disk (read_work Image disk) start now image notes disk number says.0 says.1 says.2 says.3 says.4 (λ line first. inl (line, first, says.2, refl)) (λ after cut. inr cut)
+  read-answers (Err (Refused empty)) says =
+      none-of-disk (read_work Image disk) start now image notes disk empty.dump says.0 says.1 says.2 says.3 says.4 (λ line first. inl (line, first, says.2, refl)) (λ after cut. inr cut)
+  read-answers (Err ReadFault) never = absurd never
   read-answers (Err ImageFault) says = says
   read-answers (Err NotesFault) says = inl says
 
-  pub read-did : (answer : Result DumpTotals DumpsFault) → SaysOfDumps disk start now image.before image.after notes.before notes.after answer → ShelfDid disk start now answer
+  pub read-did : (answer : Result DumpTotals (Stopped NoFiles)) → SaysOfDumps disk start now image.before image.after notes.before notes.after answer → ShelfDid disk start now answer
   read-did (Ok totals) says =
       ((says.1.is.streams, says.1.is.beside.came), says.1.shelf, ap (λ (t : DumpTotals). t.lost) (says.1.totals_are ∙ ap (λ (d : DumpsRead). d.totals) says.1.is.is))
-  read-did (Err (NoFiles number)) says = says.2
-  read-did (Err ImageFault) says = ((says.streams, []), says.shelf)
+  read-did (Err (Refused empty)) says = says.2
+  read-did (Err ReadFault) never = absurd never
+  read-did (Err ImageFault) says = ((says.are.streams, []), says.are.shelf)
   read-did (Err NotesFault) says =
       elim says [
-        | inl stops ↦ elim stops [ inl lines ↦ ((lines.streams, []), lines.shelf) | inr beside ↦ ((beside.streams, beside.beside.came), beside.shelf) ]
+        | inl stops ↦ elim stops [ inl lines ↦ ((lines.are.streams, []), lines.are.shelf) | inr beside ↦ ((beside.streams, beside.beside.came), beside.shelf) ]
         | inr end ↦ ((end.streams, end.beside.came), end.shelf)
       ]
 
-  pub draw-answers : (answer : Result DumpTotals DumpsFault) → SaysOfDrawing disk start now image.before image.after answer → notes.after ≡ notes.before
+  pub draw-answers : (answer : Result DumpTotals (Stopped NoFiles)) → SaysOfDrawing disk start now image.before image.after answer → notes.after ≡ notes.before
       → Answers (read_work Picture disk) disk.dumps start now image notes read_status answer
   draw-answers (Ok totals) says same = record {
     outcome = read_outcome says.1.outcome;
@@ -106,16 +111,18 @@ module _ (disk : DumpDisk) (start now : ShelfNow) (image notes : Growth) where
     image_got = says.1.grew;
     notes_got = subst (Got notes) (sym (ap (λ (d : DumpsRead). d.notes) says.1.is.is)) (same-nothing notes.before notes.after same);
   }
-  draw-answers (Err (NoFiles number)) says same =
-      none-of-disk (read_work Picture disk) start now image notes disk number says.0 says.1 says.2 says.3 same (λ line first. inl (line, first, says.2, refl)) (λ after cut. cut)
+  draw-answers (Err (Refused empty)) says same =
+      none-of-disk (read_work Picture disk) start now image notes disk empty.dump says.0 says.1 says.2 says.3 same (λ line first. inl (line, first, says.2, refl)) (λ after cut. cut)
+  draw-answers (Err ReadFault) never same = absurd never
   draw-answers (Err ImageFault) says same = (says, same-kept notes.before notes.after same)
   draw-answers (Err NotesFault) says same = absurd says
 
 module _ (disk : DumpDisk) (start now : ShelfNow) (image : Growth) where
-  pub draw-did : (answer : Result DumpTotals DumpsFault) → SaysOfDrawing disk start now image.before image.after answer → ShelfDid disk start now answer
+  pub draw-did : (answer : Result DumpTotals (Stopped NoFiles)) → SaysOfDrawing disk start now image.before image.after answer → ShelfDid disk start now answer
   draw-did (Ok totals) says =
       ((says.1.is.streams, says.1.is.beside.came), says.1.shelf, ap (λ (t : DumpTotals). t.lost) (says.1.totals_are ∙ ap (λ (d : DumpsRead). d.totals) says.1.is.is))
-  draw-did (Err (NoFiles number)) says = says.2
+  draw-did (Err (Refused empty)) says = says.2
+  draw-did (Err ReadFault) never = absurd never
   draw-did (Err ImageFault) says = ((says.streams, says.beside), says.shelf)
   draw-did (Err NotesFault) says = absurd says
 

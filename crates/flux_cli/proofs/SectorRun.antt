@@ -4,8 +4,9 @@ use Rattle.std.proofs.Common.{◌≡◌, ℕ, List, Option, Some, Result, Ok, Er
 use Rattle.dump_reading.specs.DumpStreams.{FailedAlike}
 use Rattle.dump_reading.specs.Files.{ShelfNow}
 use Rattle.dump_reading.specs.Outcomes.{DumpDisk}
-use Rattle.dump_reading.specs.declared.fault.DumpsFault.{DumpsFault}
-use Rattle.dump_reading.specs.declared.fault.DumpsFault.TheVariants.{NoFiles, ImageFault, NotesFault}
+use Rattle.dump_reading.specs.declared.fault.NoFiles.{NoFiles}
+use Rattle.flux_engine.specs.declared.fault.Stopped.{Stopped}
+use Rattle.flux_engine.specs.declared.fault.Stopped.TheVariants.{ReadFault, ImageFault, NotesFault, Refused}
 use Rattle.flux_base.specs.declared.status.Status.{Status}
 use Rattle.flux_engine.specs.LoopProgress.{lost_count}
 use Rattle.sector_copies.specs.Laws.{AreReadingsOfCame, ShownIsOne}
@@ -35,7 +36,7 @@ sector_often totals often same =
     (often-if (nat_lt 0 totals.lost) _ totals.lost (fails-by totals.lost) (λ none. often-either (nat_eq totals.copies 1) totals.lost none))
 
 module _ (asked : SectorAsked) (start now : ShelfNow) (image notes : Growth) where
-  pub sector-answers : (answer : Result SectorTotals DumpsFault) → SaysOfSector asked start now image.before image.after notes.before notes.after answer
+  pub sector-answers : (answer : Result SectorTotals (Stopped NoFiles)) → SaysOfSector asked start now image.before image.after notes.before notes.after answer
       → Answers (sector_work asked) asked.disk.dumps start now image notes sector_status answer
   sector-answers (Ok totals) says = record {
     outcome = sector_outcome says.0;
@@ -44,12 +45,13 @@ module _ (asked : SectorAsked) (start now : ShelfNow) (image notes : Growth) whe
     image_got = says.2;
     notes_got = says.3;
   }
-  sector-answers (Err (NoFiles number)) says =
-      none-of-disk (sector_work asked) start now image notes asked.disk number says.0 says.1 says.2 says.3 says.4 (λ line first. inl (line, first, says.2, refl)) (λ after cut. inr cut)
+  sector-answers (Err (Refused empty)) says =
+      none-of-disk (sector_work asked) start now image notes asked.disk empty.dump says.0 says.1 says.2 says.3 says.4 (λ line first. inl (line, first, says.2, refl)) (λ after cut. inr cut)
+  sector-answers (Err ReadFault) never = absurd never
   sector-answers (Err ImageFault) says = says
   sector-answers (Err NotesFault) says = inl (says.0, says.1, same-kept image.before image.after says.2, says.3)
 
-  pub sector-failed : (answer : Result SectorTotals DumpsFault) → SaysOfSector asked start now image.before image.after notes.before notes.after answer → Failed sector_status start now answer
+  pub sector-failed : (answer : Result SectorTotals (Stopped NoFiles)) → SaysOfSector asked start now image.before image.after notes.before notes.after answer → Failed sector_status start now answer
   sector-failed (Ok totals) says = record {
     often = lost_count says.1.is.came;
     fails = sector_often totals (lost_count says.1.is.came) (ap (λ (t : SectorTotals). t.lost) (says.4 ∙ ap (λ (s : SectorShown). s.totals) says.1.is.is));
@@ -57,7 +59,8 @@ module _ (asked : SectorAsked) (start now : ShelfNow) (image notes : Growth) whe
     paths = _;
     told = says.1.shelf.told;
   }
-  sector-failed (Err (NoFiles number)) says = still-failed sector_status start now number says.2
+  sector-failed (Err (Refused empty)) says = still-failed sector_status start now empty says.2
+  sector-failed (Err ReadFault) never = absurd never
   sector-failed (Err ImageFault) says = record { often = _; fails = tt; many = says.1.shelf.counts; paths = _; told = says.1.shelf.told }
   sector-failed (Err NotesFault) says = record { often = _; fails = tt; many = says.1.shelf.counts; paths = _; told = says.1.shelf.told }
 

@@ -2,11 +2,12 @@
 use Rattle.std.proofs.Common.{◌≡◌, ◌<◌, ℕ, Bool, true, false, List, [], get_or, length, Option, Some, None, Result, Ok, Err, inl, inr, refl, sym, ap, ◌∙◌, subst, append-nil, arith}
 use Rattle.std.proofs.KnownBytes.{Appends-nil, Keeps-refl}
 use Rattle.std.specs.Io.KnownBytes.{Appends, Keeps}
-use Rattle.dump_reading.specs.Blamed.{dumps_blame}
+use Rattle.flux_engine.specs.Blamed.{sink_blame}
 use Rattle.dump_reading.specs.Files.{CountsMany, ShelfNow}
 use Rattle.dump_reading.specs.Outcomes.{DumpDisk, IsFirstEmpty, IsToldEmpty, has_files}
-use Rattle.dump_reading.specs.declared.fault.DumpsFault.{DumpsFault}
-use Rattle.dump_reading.specs.declared.fault.DumpsFault.TheVariants.{NoFiles, ImageFault as DumpsUnwritten, NotesFault as DumpsUntold}
+use Rattle.dump_reading.specs.declared.fault.NoFiles.{NoFiles}
+use Rattle.flux_engine.specs.declared.fault.Stopped.{Stopped}
+use Rattle.flux_engine.specs.declared.fault.Stopped.TheVariants.{Refused as RefusedInput, ReadFault as Unread, ImageFault as Unwritten, NotesFault as Untold}
 use Rattle.flux_base.specs.Blames.{CountsBy, no_counts, three_counts}
 use Rattle.flux_base.specs.Moments.{Moment}
 use Rattle.flux_base.specs.Outside.{AppendsPart}
@@ -54,11 +55,12 @@ module _ (work : ShelfWork) (dumps : List (List ℕ)) (start now : ShelfNow) (im
     pub cut : (line : List ℕ) → TellsEmpty start.told.files dumps number line → (after : Option (List ℕ)) → AppendsPart notes.before after line
         → work.cut NotesFault start now image (record { before = notes.before; after = after })
 
-  abbrev pub Answers : {A : Type 0} → (A → Status) → Result A DumpsFault → Type 0
+  abbrev pub Answers : {A : Type 0} → (A → Status) → Result A (Stopped NoFiles) → Type 0
   Answers by (Ok done) = AllOf (by done)
-  Answers by (Err (NoFiles number)) = Empty number
-  Answers by (Err DumpsUnwritten) = work.cut ImageFault start now image notes
-  Answers by (Err DumpsUntold) = work.cut NotesFault start now image notes
+  Answers by (Err Unread) = ⊥
+  Answers by (Err (RefusedInput empty)) = Empty empty.dump
+  Answers by (Err Unwritten) = work.cut ImageFault start now image notes
+  Answers by (Err Untold) = work.cut NotesFault start now image notes
 
 module _ {H W N : Type 0} (work : ShelfWork) (dumps : List (List ℕ)) (before : OnShelf H W N) (shelf : ShelfMoment H) (image : Moment W) (mid after : Moment N) (status : Status) where
   abbrev Did : Status → Moment N → Type 0
@@ -80,16 +82,17 @@ module _ {H W N : Type 0} (work : ShelfWork) (dumps : List (List ℕ)) (before :
   by-row n o is image_got notes_got often many NotesFault done fails same = absurd done
   by-row n o is image_got notes_got often many Memory done fails same = absurd done
 
-  pub shelf-ended : {A : Type 0} (by : A → Status) → ((done : A) → IsDone (by done)) → (answer : Result A DumpsFault)
+  pub shelf-ended : {A : Type 0} (by : A → Status) → ((done : A) → IsDone (by done)) → (answer : Result A (Stopped NoFiles))
       → Answers work dumps (now_at before.shelf) (now_at shelf) (growth before.image image) (growth before.notes mid) by answer
       → (often : ℕ) → AnswersOften by answer often → CountsMany often before.shelf.source.counts shelf.source.counts
-      → CountsBy (dumps_blame answer) (three_counts no_counts before.image.counts before.notes.counts) (three_counts no_counts image.counts mid.counts)
+      → CountsBy (sink_blame answer) (three_counts no_counts before.image.counts before.notes.counts) (three_counts no_counts image.counts mid.counts)
       → EndsDumps before.shelf.files dumps by answer status mid after → Did status after
   shelf-ended by done_is (Ok done) all often fails many counts is =
       ends-with Did (by done) status mid after (by-row mid all.outcome all.is all.image_got all.notes_got often many (by done) (done_is done) fails all.same) is
-  shelf-ended by done_is (Err DumpsUnwritten) cut often fails many counts is = ends-with Did ImageFault status mid after (cut, counts.image.cause) is.ends
-  shelf-ended by done_is (Err DumpsUntold) cut often fails many counts is = ends-with Did NotesFault status mid after (cut, counts.notes.cause) is.ends
-  shelf-ended by done_is (Err (NoFiles number)) empty often fails many counts is = ends-refused Did is.line status mid after
+  shelf-ended by done_is (Err Unwritten) cut often fails many counts is = ends-with Did ImageFault status mid after (cut, counts.image.cause) is.ends
+  shelf-ended by done_is (Err Untold) cut often fails many counts is = ends-with Did NotesFault status mid after (cut, counts.notes.cause) is.ends
+  shelf-ended by done_is (Err Unread) never often fails many counts is = absurd never
+  shelf-ended by done_is (Err (RefusedInput none)) empty often fails many counts is = ends-refused Did is.line status mid after
       (λ all later. record {
         outcome = empty_outcome is.line;
         is = empty.is is.line is.refuses;
@@ -103,7 +106,7 @@ module _ {H W N : Type 0} (work : ShelfWork) (dumps : List (List ℕ)) (before :
       )) is.ends
 
 -- the files of the shelf stayed the same meanwhile
-pub ends-over : {A N : Type 0} (told now : ShelfTold) (dumps : List (List ℕ)) (by : A → Status) (answer : Result A DumpsFault) (status : Status) (before after : Moment N)
+pub ends-over : {A N : Type 0} (told now : ShelfTold) (dumps : List (List ℕ)) (by : A → Status) (answer : Result A (Stopped NoFiles)) (status : Status) (before after : Moment N)
     → (paths : List (List ℕ)) → now ≡ with_failed paths told → EndsDumps now.files dumps by answer status before after → EndsDumps told.files dumps by answer status before after
 ends-over told now dumps by answer status before after paths same is =
     subst (λ (files : Option (List File)). EndsDumps files dumps by answer status before after) (ap (λ (t : ShelfTold). t.files) same) is

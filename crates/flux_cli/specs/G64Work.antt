@@ -4,7 +4,8 @@ use Rattle.std.specs.Prelude.{Some, None}
 use Rattle.flux_base.specs.declared.status.Status.{Status}
 use Rattle.flux_base.specs.declared.status.Status.TheVariants.{AllGood, NotAllGood, Refused}
 use Rattle.flux_base.specs.declared.status.Status.TheVariants.{ReadFault, ImageFault, NotesFault}
-use Rattle.g64_image.specs.Answers.{StoppedInImage, StoppedInLines, StoppedInTotal}
+use Rattle.g64_image.specs.Answers.{FileCutInNotes, FileCutInTrack}
+use Rattle.flux_engine.specs.declared.track_part.PartFault.TheVariants.{ImageFault as PartImageFault}
 use Rattle.g64_image.specs.Faults.{MOST_BYTES, first_fault}
 use Rattle.g64_image.specs.FileDisks.{FileDisk, IsFileDisk}
 use Rattle.g64_image.specs.Layout.{g64_file}
@@ -59,14 +60,14 @@ pub record CutInFileRefusal (format : Format) (x later : List ℕ)
 -- a sink cut the report: in a track's lines, or in the total line
 abbrev pub CutInFileReport : Format → (x : List ℕ) → (image notes : Growth) → Type 0
 CutInFileReport format x image notes =
-    StoppedInLines format x image.before image.after notes.before notes.after
-    ⊎ StoppedInTotal format x image.before image.after notes.before notes.after
+    FileCutInNotes format x image.before image.after notes.before notes.after
 
 abbrev pub from_g64_cut : Format → Status → (taken later : List ℕ) → (image notes : Growth) → Type 0
 from_g64_cut format ReadFault taken later image notes = CutInFile taken image notes
 from_g64_cut format ImageFault taken later image notes =
     IsWholeInput format (taken ++ later) later
-    × StoppedInImage format (taken ++ later) image.before image.after notes.before notes.after
+    × FileCutInTrack PartImageFault format (taken ++ later) image.before image.after notes.before
+    notes.after
 from_g64_cut format NotesFault taken later image notes =
     (IsWholeInput format (taken ++ later) later
     × CutInFileReport format (taken ++ later) image notes)

@@ -9,9 +9,11 @@ use Rattle.flux_base.specs.declared.status.Status.{Status}
 use Rattle.flux_base.specs.declared.status.Status.TheVariants.{AllGood, NotAllGood, Refused}
 use Rattle.flux_base.specs.declared.status.Status.TheVariants.{ReadFault, ImageFault, NotesFault}
 use Rattle.flux_engine.specs.Answers.{AppendsAndPart, IsTakenBehind}
-use Rattle.flux_engine.specs.PlanAnswers.{PlanStoppedInImage, PlanStoppedInLines}
-use Rattle.flux_engine.specs.PlanAnswers.{PlanStoppedInTotal}
-use Rattle.flux_engine.specs.Plans.{EndsInPlan, IsFirstFault, IsPlanned, PartOf, PlanStop, Planned}
+use Rattle.flux_engine.specs.PlanAnswers.{PlanCutInTotal, PlanCutInTrack}
+use Rattle.flux_engine.specs.declared.track_part.PartFault.TheVariants.{ImageFault as PartImageFault}
+use Rattle.flux_engine.specs.declared.track_part.PartFault.TheVariants.{NotesFault as PartNotesFault}
+use Rattle.flux_engine.specs.Plans.{EndsInPlan, IsFirstFault, IsPlanned, PartOf, Planned}
+use Rattle.flux_engine.specs.declared.fault.RefusedCapture.{RefusedCapture}
 use Rattle.flux_engine.specs.Plans.{streams_in}
 use Rattle.flux_engine.specs.Tracks.{part_by}
 use Rattle.flux_engine.specs.declared.plan.Plan.{Plan}
@@ -39,7 +41,7 @@ status_by totals None = status_of totals
 status_by totals (Some fault) = Refused
 
 -- why the disk is refused: with the capture where lines name captures
-abbrev pub stop_text : Naming → PlanStop → List ℕ
+abbrev pub stop_text : Naming → RefusedCapture → List ℕ
 stop_text Unnamed stop = refused_text stop.track stop.block stop.fault
 stop_text ByClock stop = refused_text stop.track stop.block stop.fault
 stop_text ByCapture stop = refused_capture_text stop.track stop.capture stop.block stop.fault
@@ -47,7 +49,7 @@ stop_text ByCaptureAndClock stop =
     refused_capture_text stop.track stop.capture stop.block stop.fault
 
 -- if it is
-abbrev pub planned_refusal : Naming → Option PlanStop → List ℕ
+abbrev pub planned_refusal : Naming → Option RefusedCapture → List ℕ
 planned_refusal naming None = []
 planned_refusal naming (Some stop) = stop_text naming stop
 
@@ -95,7 +97,7 @@ planned_leaves plan format AllGood x later =
 planned_leaves plan format NotAllGood x later =
     IsTakenBehind x later (length (tracks format) * plan.captures) 4096
 planned_leaves plan format Refused x later =
-    (stop : PlanStop) × IsFirstFault plan format (streams_in plan x) stop
+    (stop : RefusedCapture) × IsFirstFault plan format (streams_in plan x) stop
     × IsTakenBehind x later (stop.track * plan.captures + stop.capture) MOST_AT_ONCE
 planned_leaves plan format _ x later = ⊥
 
@@ -107,7 +109,7 @@ pub record CutInReading (plan : Plan) (output : Output) (format : Format) (taken
   pub is : IsRead plan output format taken decoded
   pub image_got : Got image (to_image_cut output format decoded)
   pub notes_got : Got notes (to_notes output decoded)
-  pub stop : PlanStop
+  pub stop : RefusedCapture
   pub stops : decoded.stop ≡ Some stop
   pub cut_short : stop.fault ≡ Truncated
 
@@ -117,7 +119,7 @@ pub record CutInRefusal (plan : Plan) (output : Output) (format : Format) (x lat
     (image notes : Growth) : Type 0 where
   pub decoded : Planned
   pub is : IsRead plan output format x decoded
-  pub stop : PlanStop
+  pub stop : RefusedCapture
   pub stops : decoded.stop ≡ Some stop
   pub image_got : Got image (to_image output format decoded)
   pub notes_got : AppendsAndPart notes.before notes.after (to_notes output decoded)
@@ -127,9 +129,9 @@ pub record CutInRefusal (plan : Plan) (output : Output) (format : Format) (x lat
 -- a sink cut the report: in a track's lines, or in the total line
 abbrev pub CutInReport : Plan → Format → (x later : List ℕ) → (image notes : Growth) → Type 0
 CutInReport plan format x later image notes =
-    PlanStoppedInLines plan (part_by plan.naming) format x later image.before image.after
-    notes.before notes.after
-    ⊎ PlanStoppedInTotal plan (part_by plan.naming) format x later image.before image.after
+    PlanCutInTrack PartNotesFault plan (part_by plan.naming) format x later image.before
+    image.after notes.before notes.after
+    ⊎ PlanCutInTotal plan (part_by plan.naming) format x later image.before image.after
     notes.before notes.after
 
 -- where the report stands alone, the image goes nowhere
@@ -140,8 +142,8 @@ nowhere = record { before = None; after = None }
 abbrev pub CutByImage : Plan → Output → Format → (x later : List ℕ) → (image notes : Growth)
     → Type 0
 CutByImage plan ImageAndReport format x later image notes =
-    PlanStoppedInImage plan (part_by plan.naming) format x later image.before image.after
-    notes.before notes.after
+    PlanCutInTrack PartImageFault plan (part_by plan.naming) format x later image.before
+    image.after notes.before notes.after
 CutByImage plan ReportAlone format x later image notes =
     CutInReport plan format x later nowhere image × GotNothing notes
 CutByImage plan Picture format x later image notes =

@@ -6,8 +6,8 @@ use Rattle.dump_reading.specs.Beside.{beside_lines}
 use Rattle.dump_reading.specs.DumpStreams.{FailedAlike}
 use Rattle.dump_reading.specs.Files.{ShelfNow}
 use Rattle.dump_reading.specs.Outcomes.{DumpDisk, DumpsRead, FilesFailed, IsDumpsRead}
-use Rattle.dump_reading.specs.Outcomes.{WroteIntoBesideBy, WroteIntoEnd, WroteIntoImageBy}
-use Rattle.dump_reading.specs.Outcomes.{WroteIntoLinesBy}
+use Rattle.dump_reading.specs.Outcomes.{StopsBy, WroteIntoEnd}
+use Rattle.flux_engine.specs.declared.fault.Stopped.TheVariants.{ImageFault as Unwritten, NotesFault as Untold}
 use Rattle.dump_reading.specs.Reports.{read_part}
 use Rattle.dump_reading.specs.Totals.{is_complete}
 use Rattle.dump_reading.specs.declared.totals.DumpTotals.{DumpTotals}
@@ -64,11 +64,11 @@ FailedAsRead shown disk start now start' now' a b _ _ = Unit {0}
 abbrev pub dumps_cut : Shown → DumpDisk → Status → (start now : ShelfNow) → (image notes : Growth)
     → Type 0
 dumps_cut Image disk ImageFault start now image notes =
-    WroteIntoImageBy read_part disk start now image.before image.after notes.before notes.after
+    StopsBy read_part beside_lines disk start now image.before image.after notes.before notes.after
+    Unwritten
 dumps_cut Image disk NotesFault start now image notes =
-    ((WroteIntoLinesBy read_part disk start now image.before image.after notes.before notes.after
-    ⊎ WroteIntoBesideBy read_part beside_lines disk start now image.before image.after notes.before
-    notes.after)
+    (StopsBy read_part beside_lines disk start now image.before image.after notes.before notes.after
+    Untold
     ⊎ WroteIntoEnd disk start now image.before image.after notes.before notes.after)
     ⊎ CutInEmpty disk start now image notes
 dumps_cut Picture disk ImageFault start now image notes =

@@ -15,10 +15,10 @@ use crate::identity::status_of as status_of_identity;
 use crate::planned::stop_line;
 use crate::read::status_of as status_of_dumps;
 use dump_identity::Identity;
-use dump_reading::{DumpTotals, DumpsFault};
+use dump_reading::{DumpTotals, NoFiles};
 use flux_base::{Failed, Sink, Status, Word};
-use flux_engine::{PlanFault, WriteFault};
-use g64_image::{FromStop, g64_line};
+use flux_engine::{RefusedCapture, Stopped, WriteFault};
+use g64_image::{G64Fault, g64_line};
 use sector_copies::SectorTotals;
 use sector_report::{Line, Naming, Totals, image_line, write_line};
 use track_shelf::Shelf;
@@ -43,24 +43,17 @@ pub(crate) fn end_of_writing(answer: Result<(), Failed>) -> Status
 /// Ends a disk that was read by a plan whose lines name this.
 pub(crate) fn end_of_plan<N: Sink>(
     naming: Naming,
-    answer: Result<Totals, PlanFault>,
+    answer: Result<Totals, Stopped<RefusedCapture>>,
     notes: &mut N,
 ) -> Status
     ensures { EndsBy (plan_ending naming answer) result (sink_at N.Sink notes.old) (sink_at N.Sink notes.new) }
 {
     match answer {
         Ok(totals) => status_of(&totals),
-        Err(PlanFault::ReadFault) => Status::ReadFault,
-        Err(PlanFault::ImageFault) => Status::ImageFault,
-        Err(PlanFault::NotesFault) => Status::NotesFault,
-        Err(
-            PlanFault::Refused {
-                track,
-                capture,
-                block,
-                fault,
-            },
-        ) => refuse(&stop_line(naming, track, capture, block, &fault), notes),
+        Err(Stopped::ReadFault) => Status::ReadFault,
+        Err(Stopped::ImageFault) => Status::ImageFault,
+        Err(Stopped::NotesFault) => Status::NotesFault,
+        Err(Stopped::Refused(refused)) => refuse(&stop_line(naming, &refused), notes),
     }
 }
 
@@ -88,22 +81,27 @@ pub(crate) fn end_of_image<N: Sink>(answer: Result<(), WriteFault>, notes: &mut 
 }
 
 /// Ends a file that was read.
-pub(crate) fn end_of_file<N: Sink>(answer: Result<Totals, FromStop>, notes: &mut N) -> Status
+pub(crate) fn end_of_file<N: Sink>(
+    answer: Result<Totals, Stopped<G64Fault>>,
+    notes: &mut N,
+) -> Status
     ensures { EndsBy (file_ending answer) result (sink_at N.Sink notes.old) (sink_at N.Sink notes.new) }
 {
     match answer {
         Ok(totals) => status_of(&totals),
-        Err(FromStop::ReadFault) => Status::ReadFault,
-        Err(FromStop::ImageFault) => Status::ImageFault,
-        Err(FromStop::NotesFault) => Status::NotesFault,
-        Err(FromStop::Refused(fault)) => refuse(&g64_line(&fault), notes),
+        Err(stop) => match stop {
+            Stopped::ReadFault => Status::ReadFault,
+            Stopped::ImageFault => Status::ImageFault,
+            Stopped::NotesFault => Status::NotesFault,
+            Stopped::Refused(fault) => refuse(&g64_line(&fault), notes),
+        },
     }
 }
 
 /// Ends what was asked of dumps and was not done, or not all. Of the first dump that has none of the wanted
 /// files the notes say what is there.
 fn end_of_fault<H: Shelf, N: Sink>(
-    fault: DumpsFault,
+    fault: Stopped<NoFiles>,
     dumps: &[Word],
     shelf: &H,
     notes: &mut N,
@@ -112,12 +110,13 @@ fn end_of_fault<H: Shelf, N: Sink>(
         (sink_at N.Sink notes.new) }
 {
     match fault {
-        DumpsFault::NoFiles { dump } => {
-            let word = word_at(dumps, dump);
-            refused_by(write_empty(dump, word, &shelf.kind_of(word), notes))
+        Stopped::Refused(empty) => {
+            let word = word_at(dumps, empty.dump);
+            refused_by(write_empty(empty.dump, word, &shelf.kind_of(word), notes))
         }
-        DumpsFault::ImageFault => Status::ImageFault,
-        DumpsFault::NotesFault => Status::NotesFault,
+        Stopped::ReadFault => Status::ShelfFault,
+        Stopped::ImageFault => Status::ImageFault,
+        Stopped::NotesFault => Status::NotesFault,
     }
 }
 
@@ -143,7 +142,7 @@ fn refused_by(answer: Result<(), Failed>) -> Status
 
 /// Ends a disk that was read of its dumps.
 pub(crate) fn end_of_dumps<H: Shelf, N: Sink>(
-    answer: Result<DumpTotals, DumpsFault>,
+    answer: Result<DumpTotals, Stopped<NoFiles>>,
     dumps: &[Word],
     shelf: &H,
     notes: &mut N,
@@ -159,7 +158,7 @@ pub(crate) fn end_of_dumps<H: Shelf, N: Sink>(
 
 /// Ends a dump of which is said which disk it is of.
 pub(crate) fn end_of_identity<H: Shelf, N: Sink>(
-    answer: Result<Identity, DumpsFault>,
+    answer: Result<Identity, Stopped<NoFiles>>,
     dumps: &[Word],
     shelf: &H,
     notes: &mut N,
@@ -175,7 +174,7 @@ pub(crate) fn end_of_identity<H: Shelf, N: Sink>(
 
 /// Ends a sector that was shown as the dumps have it.
 pub(crate) fn end_of_sector<H: Shelf, N: Sink>(
-    answer: Result<SectorTotals, DumpsFault>,
+    answer: Result<SectorTotals, Stopped<NoFiles>>,
     dumps: &[Word],
     shelf: &H,
     notes: &mut N,

@@ -14,9 +14,8 @@ ghost use Rattle.flux_engine.specs.Room.{fresh};
 use crate::endings::end_of_plan;
 use disk_map::map_disk;
 use flux_base::{CountingSink, Memory, Sink, Source, Status};
-use flux_engine::{DiskRoom, Plan, PlanFault, decode_planned};
+use flux_engine::{DiskRoom, Plan, RefusedCapture, Stopped, decode_planned};
 use flux_words::Output;
-use kryo_stream::StreamFault;
 use sector_images::Format;
 use sector_report::{Line, Naming, Totals, refused_capture_line, refused_line};
 use std::alloc::Global;
@@ -85,31 +84,26 @@ pub fn decode<S: Source, W: Sink, N: Sink>(
 }
 
 /// The answer where the report stands in the image's place: a fault of its sink is one of the image.
-fn in_image(answer: Result<Totals, PlanFault>) -> Result<Totals, PlanFault>
+fn in_image(
+    answer: Result<Totals, Stopped<RefusedCapture>>,
+) -> Result<Totals, Stopped<RefusedCapture>>
     ensures { result ≡ answer_in_image answer }
 {
     match answer {
         Ok(totals) => Ok(totals),
-        Err(PlanFault::NotesFault) => Err(PlanFault::ImageFault),
+        Err(Stopped::NotesFault) => Err(Stopped::ImageFault),
         Err(fault) => Err(fault),
     }
 }
 
 /// Why a stream was refused: with the capture's number where lines name captures.
-pub(crate) fn stop_line(
-    naming: Naming,
-    track: u32,
-    capture: u32,
-    block: u32,
-    fault: &StreamFault,
-) -> Line
-    ensures { result.bytes
-        ≡ stop_text naming (record { track = track; capture = capture; block = block; fault = fault.now }) }
+pub(crate) fn stop_line(naming: Naming, stop: &RefusedCapture) -> Line
+    ensures { result.bytes ≡ stop_text naming stop.now }
 {
     match naming {
-        Naming::Unnamed | Naming::ByClock => refused_line(track, block, fault),
+        Naming::Unnamed | Naming::ByClock => refused_line(stop.track, stop.block, &stop.fault),
         Naming::ByCapture | Naming::ByCaptureAndClock => {
-            refused_capture_line(track, capture, block, fault)
+            refused_capture_line(stop.track, stop.capture, stop.block, &stop.fault)
         }
     }
 }

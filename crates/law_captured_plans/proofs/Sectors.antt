@@ -14,7 +14,8 @@ use Rattle.turn_merge.specs.declared.verdict.Verdict.TheVariants.{Good, Contradi
 use Rattle.flux_engine.specs.DiskLaws.{HasLine, bytes_at, line_number}
 use Rattle.flux_engine.specs.Disks.{images, last_line, part_at, totals_over}
 use Rattle.flux_engine.specs.PlanLaws.{GoodIsRightInPlans, cells_in}
-use Rattle.flux_engine.specs.Plans.{IsPlanned, IsPlannedPart, PlanStop, Planned, Streams, StopsAt, joined, planned_count}
+use Rattle.flux_engine.specs.Plans.{IsPlanned, IsPlannedPart, Planned, Streams, StopsAt, joined, planned_count}
+use Rattle.flux_engine.specs.declared.fault.RefusedCapture.{RefusedCapture}
 use Rattle.flux_engine.specs.Recordings.{sectors_of, track_at}
 use Rattle.flux_engine.specs.Rules.{RulesAreRead}
 use Rattle.flux_engine.specs.Tracks.{TrackPart, image_bytes, image_of, image_piece, lines_by, part_by}
@@ -83,7 +84,7 @@ module _ (laws : Laws) (plan : Plan) (format : Format) (streams : Streams) (o : 
   pub few : length is.parts ≤ length (tracks format)
   few = (let low = few_of o.stop is.stops in omega (arith, low, is.many))
     where
-      few_of : (stop : Option PlanStop) → StopsAt plan format streams stop → planned_count format stop ≤ length (tracks format)
+      few_of : (stop : Option RefusedCapture) → StopsAt plan format streams stop → planned_count format stop ≤ length (tracks format)
       few_of None clean = omega arith
       few_of (Some stop) first = omega (arith, first.low)
 

@@ -8,7 +8,8 @@ use Rattle.kryo_stream.specs.Joined.{PaddingIsPassed}
 use Rattle.kryo_stream.specs.Stream.{first_fault, stream_length}
 use Rattle.sector_images.specs.Places.{tracks}
 use Rattle.sector_images.specs.declared.format.Format.{Format}
-use Rattle.flux_engine.specs.Plans.{IsPlanned, PlanStop, Planned, StopsAt, streams_in}
+use Rattle.flux_engine.specs.Plans.{IsPlanned, Planned, StopsAt, streams_in}
+use Rattle.flux_engine.specs.declared.fault.RefusedCapture.{RefusedCapture}
 use Rattle.flux_engine.specs.Tracks.{part_by}
 use Rattle.flux_engine.specs.declared.plan.Plan.{Plan}
 use Rattle.law_captured_disks.specs.Inputs.{AreJoined}
@@ -52,6 +53,6 @@ module _ (stay : StreamsStay) (passed : PaddingIsPassed) (plan : Plan) (format :
   pub no_stop : (o : Planned) → IsPlanned plan (part_by plan.naming) format (streams_in plan x) o → o.stop ≡ None
   no_stop o read = nowhere o.stop read.stops
     where
-      nowhere : (stop : Option PlanStop) → StopsAt plan format (streams_in plan x) stop → stop ≡ None
+      nowhere : (stop : Option RefusedCapture) → StopsAt plan format (streams_in plan x) stop → stop ≡ None
       nowhere None clean = refl
       nowhere (Some s) first = absurd (none_some _ _ (stream_is s.track s.capture first.low first.few).no_fault first.is)
