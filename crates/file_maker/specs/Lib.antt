@@ -1,0 +1,4 @@
+pub mod Made
+pub mod Makes
+pub mod Memory
+pub mod lemmas
