@@ -1,5 +1,6 @@
 mod beside;
 mod dumps;
+mod files;
 mod identities;
 mod names;
 mod pictures;

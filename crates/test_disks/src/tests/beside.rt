@@ -12,10 +12,10 @@ use std::test::Fail;
 use track_shelf::{MemoryShelf, ShelfFile, Stepping};
 
 /// More bytes than two tracks' streams, a picture or a report have.
-const ROOM: usize = 1 << 19;
+pub const ROOM: usize = 1 << 19;
 
 /// The disk that a word names by its numbers.
-fn disk_of(word: &str) -> Format {
+pub fn disk_of(word: &str) -> Format {
     Format::of_word(word.as_bytes()).unwrap_or(Format::Ibm3740)
 }
 

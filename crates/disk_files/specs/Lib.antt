@@ -1,0 +1,4 @@
+pub mod Files
+pub mod Answers
+pub mod Blamed
+pub mod Laws
