@@ -62,6 +62,13 @@ impl<W: Write> StdSink<W> {
     {
         StdSink { writer, faults: 0 }
     }
+
+    /// How often it failed.
+    pub(crate) fn faults(&self) -> u64
+        ensures { result ≡ self.now.faults }
+    {
+        self.faults
+    }
 }
 
 impl<W: Write> Sink for StdSink<W> {

@@ -1,5 +1,6 @@
 mod files;
 mod kinds;
+mod maker;
 mod shelf;
 mod streams;
 

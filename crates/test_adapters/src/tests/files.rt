@@ -73,9 +73,37 @@ pub struct Listed<'a> {
     record: &'a Record,
 }
 
+/// What a file is called here that was made.
+const NEW_FILE: &str = "a new file";
+
 /// What flux asks of no file.
 fn unsupported<T>() -> io::Result<T> {
     Err(io::Error::from(ErrorKind::Unsupported))
+}
+
+impl<'a> StandIn<'a> {
+    /// What lies at a path.
+    fn found(&self, path: &str) -> io::Result<Metadata> {
+        for (name, bytes) in self.files {
+            if *name == path {
+                return Ok(Metadata::of_file(bytes.len() as u64));
+            }
+        }
+        for (name, _) in self.folders {
+            if name.strip_suffix('/') == Some(path) {
+                return Ok(Metadata::of_dir());
+            }
+        }
+        Err(io::Error::from(ErrorKind::NotFound))
+    }
+
+    /// Nothing lies at a path.
+    fn is_free(&self, path: &str) -> io::Result<()> {
+        match self.found(path) {
+            Ok(_) => Err(io::Error::from(ErrorKind::AlreadyExists)),
+            Err(_) => Ok(()),
+        }
+    }
 }
 
 impl<'a> Files for StandIn<'a> {
@@ -85,6 +113,15 @@ impl<'a> Files for StandIn<'a> {
 
     fn open_file(&self, how: &OpenOptions, path: &str) -> io::Result<Opened<'a>> {
         how.check()?;
+        if how.asks_create_new() {
+            self.record.call("create", path)?;
+            self.is_free(path)?;
+            return Ok(Opened {
+                path: NEW_FILE,
+                left: &[],
+                record: self.record,
+            });
+        }
         let what = if how.asks_write() { "write" } else { "open" };
         self.record.call(what, path)?;
         for (name, bytes) in self.files {
@@ -115,21 +152,12 @@ impl<'a> Files for StandIn<'a> {
 
     fn metadata(&self, path: &str) -> io::Result<Metadata> {
         self.record.call("look", path)?;
-        for (name, bytes) in self.files {
-            if *name == path {
-                return Ok(Metadata::of_file(bytes.len() as u64));
-            }
-        }
-        for (name, _) in self.folders {
-            if name.strip_suffix('/') == Some(path) {
-                return Ok(Metadata::of_dir());
-            }
-        }
-        Err(io::Error::from(ErrorKind::NotFound))
+        self.found(path)
     }
 
-    fn symlink_metadata(&self, _path: &str) -> io::Result<Metadata> {
-        unsupported()
+    fn symlink_metadata(&self, path: &str) -> io::Result<Metadata> {
+        self.record.call("find", path)?;
+        self.found(path)
     }
 
     fn copy(&self, _from: &str, _to: &str) -> io::Result<u64> {
@@ -144,8 +172,9 @@ impl<'a> Files for StandIn<'a> {
         unsupported()
     }
 
-    fn create_dir(&self, _path: &str) -> io::Result<()> {
-        unsupported()
+    fn create_dir(&self, path: &str) -> io::Result<()> {
+        self.record.call("make", path)?;
+        self.is_free(path)
     }
 
     fn remove_dir(&self, _path: &str) -> io::Result<()> {
@@ -177,8 +206,9 @@ impl<'a> Read for Listed<'a> {
 }
 
 impl<'a> Write for Opened<'a> {
-    fn write(&mut self, _piece: &[u8]) -> io::Result<usize> {
-        Err(io::Error::from(ErrorKind::Unsupported))
+    fn write(&mut self, piece: &[u8]) -> io::Result<usize> {
+        self.record.call("put", self.path)?;
+        Ok(piece.len())
     }
 
     fn flush(&mut self) -> io::Result<()> {
