@@ -1,10 +1,12 @@
 """Holds disks against MAME's floptool (Debian's mame-tools), sector by sector. It is no part of the gate.
 
 usage: bench/run floptool [PROGRAM [FORMAT..]]     (PROGRAM: crates/flux/out/flux; FORMAT: each that stands below)
+       bench/run floptool --identify [PROGRAM [NAME..]]     (NAME: floptool's words, each that stands below)
 
 There: floptool makes the disk of an image, PROGRAM decodes it, and every sector has to be good and the image the same. Back: PROGRAM
 writes the streams of an image, floptool reads the disk of their second revolutions, and the image has to be the same. floptool
 does not write back some disks: those of Atari that have fewer than 11 sectors a track (it takes one more than there are), and files of the CPC.
+With --identify floptool makes disks of machines that mostly have no named format, and PROGRAM has to say which disk each is, by its numbers.
 """
 import random
 import struct
@@ -16,7 +18,9 @@ from pathlib import Path
 
 import disks
 import plain
+from plain_dumps import path_of
 from plain_streams import Stream, padding_at
+from programs import put
 
 TOP = Path(__file__).resolve().parent.parent
 TURN, TIME = 200_000_000, 0x0FFFFFFF
@@ -48,6 +52,19 @@ STEPS = {"c1571": 2}
 
 # whose files floptool writes well, but gives each sector of a track the bytes of one when it reads them
 WRITTEN_ALONE = {"msa"}
+
+# floptool's word for a disk, how its file is named and its bytes, the drive's turns a minute and its steps, and what `identify` has to name
+NAMED = [
+    ("pc98", "hdm", 1261568, 360, 1, "mfm-hd360-77x2x8x1024"), ("st", "st", 923648, 300, 1, "mfm-dd-82x2x11x512"),
+    ("trd", "trd", 655360, 300, 1, "mfm-dd-80x2x16x256"), ("mgt", "mgt", 819200, 300, 1, "atari-st-800"),
+    ("adfs_n", "adf", 819200, 300, 1, "mfm-dd-80x2x5x1024@0"), ("jvc", "dsk", 161280, 300, 1, "mfm-dd-35x1x18x256"),
+    ("rx50", "img", 409600, 300, 1, "mfm-dd-80x1x10x512"), ("kaypro2", "kay", 204800, 300, 1, "mfm-dd-40x1x10x512@0"),
+    ("ti99", "dsk", 92160, 300, 2, "--double-step fm-sd-40x1x9x256@0"), ("thomson_525", "fd", 81920, 300, 1, "fm-sd-40x1x16x128"),
+    ("oric_jasmin", "dsk", 178432, 300, 1, "mfm-dd-41x1x17x256"), ("opd", "opd", 184320, 300, 1, "mfm-dd-40x1x18x256@0"),
+    ("kc85", "img", 819200, 300, 1, "mfm-dd-80x2x5x1024"), ("abc800", "dsk", 163840, 300, 1, "mfm-dd-40x1x16x256"),
+    ("esq8", "img", 450560, 300, 1, "mfm-dd-80x1x5x1024@0"), ("esq16", "img", 819200, 300, 1, "mfm-dd-80x2x10x512@0"),
+]
+
 
 def cpc_file(image, first):
     """A disk of the CPC as a file of its emulators, which names each sector."""
@@ -119,24 +136,52 @@ def as_file(form, name, image):
     return image
 
 
+def made_by_floptool(name, ending, content, folder):
+    """The intervals of each track of the disk that floptool makes of a file."""
+    source = folder / f"disk.{ending}"
+    source.write_bytes(content)
+    convert(name, "mfi", source, folder / "disk.mfi")
+    return tracks_of((folder / "disk.mfi").read_bytes())
+
+
+def stream_of(intervals, ticks):
+    """Two revolutions of a track as a stream, of which each of MAME's units has so many ticks."""
+    times, time = [], 0
+    for value in intervals * 2:
+        time += value
+        times.append(round(time * ticks))
+    values = [time - before for before, time in zip([0] + times, times)]
+    turn = disks.spelled(values[: len(values) // 2])
+    parts = b"".join(struct.pack("<HHIII", 0x020D, 12, number * len(turn), 0, number) + turn * (number < 2) for number in range(3))
+    return parts + b"\x0d\x03\x08\x00" + struct.pack("<II", 2 * len(turn), 0) + disks.END
+
+
+def dump_of(case, folder):
+    """The dump of a disk that floptool makes, as files by their paths."""
+    name, ending, size, turns, steps, _ = case
+    tracks = made_by_floptool(name, ending, filled(bytearray(random.Random(name).randbytes(size)), name), folder)
+    ticks = disks.TICKS_A_MICROSECOND * 60_000_000 / turns / TURN
+    return {path_of(b"dump", steps * cylinder, head): stream_of(values, ticks) for (cylinder, head), values in tracks.items() if values}
+
+
+def named(program, case):
+    """Whether `identify` says which disk it is, and the last line that it says."""
+    with tempfile.TemporaryDirectory() as folder:
+        for path, content in dump_of(case, Path(folder)).items():
+            put(Path(folder, path.decode()), content)
+        done = subprocess.run([program, "identify", "dump"], cwd=folder, capture_output=True)
+    last = done.stdout.decode().splitlines()[-1:] or [done.stderr.decode()]
+    return last == [f"best {case[-1]}"], last[0]
+
+
 def there(program, case, folder, image):
     word, name, ending, _, _ = case
     if name in WRITTEN_ALONE:
         return None, "-"
-    form, source = plain.FORMATS.get(word), folder / f"disk.{ending}"
-    source.write_bytes(as_file(form, name, image))
-    convert(name, "mfi", source, folder / "disk.mfi")
-    tracks, streams = tracks_of((folder / "disk.mfi").read_bytes()), b""
+    form = plain.FORMATS.get(word)
+    tracks = made_by_floptool(name, ending, as_file(form, name, image), folder)
     ticks = disks.TICKS_A_MICROSECOND * form.nominal(0) / 24604 * form.ring_cells(0) / TURN
-    for cylinder, head in form.tracks:
-        times, time = [], 0
-        for value in tracks[STEPS.get(word, 1) * cylinder, head] * 2:
-            time += value
-            times.append(round(time * ticks))
-        values = [time - before for before, time in zip([0] + times, times)]
-        turn = disks.spelled(values[: len(values) // 2])
-        parts = b"".join(struct.pack("<HHIII", 0x020D, 12, number * len(turn), 0, number) + turn * (number < 2) for number in range(3))
-        streams += parts + b"\x0d\x03\x08\x00" + struct.pack("<II", 2 * len(turn), 0) + disks.END
+    streams = b"".join(stream_of(tracks[STEPS.get(word, 1) * cylinder, head], ticks) for cylinder, head in form.tracks)
     done = subprocess.run([program, "decode", word], input=streams, capture_output=True)
     total = done.stderr.decode().splitlines()[-1]
     return done.stdout == image, total
@@ -155,7 +200,11 @@ def back(program, case, folder, image):
 
 def image_of(word, name):
     """Random bytes. By Acorn's catalogue, or the map of ADFS, floptool tells what disk it is, so there these are right."""
-    image = bytearray(random.Random(word).randbytes(plain.FORMATS.get(word).image_bytes))
+    return filled(bytearray(random.Random(word).randbytes(plain.FORMATS.get(word).image_bytes)), name)
+
+
+def filled(image, name):
+    """The bytes with those that floptool looks at."""
     sectors = len(image) // 256
     if name == "ssd":
         image[:512] = bytes(262) + struct.pack(">H", sectors) + bytes(248)
@@ -167,10 +216,17 @@ def image_of(word, name):
 
 
 def main():
-    program = sys.argv[1] if len(sys.argv) > 1 else str(TOP / "crates/flux/out/flux")
+    words = [word for word in sys.argv[1:] if word != "--identify"]
+    program = str(Path(words[0]).resolve()) if words else str(TOP / "crates/flux/out/flux")
+    if "--identify" in sys.argv[1:]:
+        for case in NAMED:
+            if case[0] in words[1:] or not words[1:]:
+                same, last = named(program, case)
+                print(f"{case[0]:12} {'same' if same else 'OTHER'} ({last})", flush=True)
+        return
     for case in KNOWN:
         word, name = case[:2]
-        if sys.argv[2:] and word not in sys.argv[2:]:
+        if words[1:] and word not in words[1:]:
             continue
         image = image_of(word, name)
         with tempfile.TemporaryDirectory() as folder:

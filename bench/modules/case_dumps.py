@@ -3,9 +3,10 @@ disk. An input is the files by their paths, None for a folder in the place of a 
 from case_others import others_track
 from case_streams import FILLER, SHORTEST, few_blocks, faulty, one_in, spell
 from case_tracks import noisy_track, track_stream, whole_track
-from plain import FORMATS, any_format
+from plain import BY_NUMBERS, FORMATS, any_format, numbered
 from plain_dumps import names_file, path_of, reaches_all, tracks_beside
 from plain_recordings import IbmFm, IbmMfm
+from plain_streams import stream_of_times
 
 IBM_FORMATS = [form for form in FORMATS.values() if isinstance(form.recording, (IbmFm, IbmMfm))]
 
@@ -94,7 +95,7 @@ def lacking(chance, kinds, name, files):
     roll = chance.randrange(12)
     if roll < 4:
         kinds.add("files missing")
-        for name in chance.sample(sorted(files), chance.choice([1, 3, len(files) // 2])):
+        for name in chance.sample(sorted(files), min(len(files), chance.choice([1, 3, len(files) // 2]))):
             del files[name]
     elif roll == 4 and one_in(chance, 3):
         files = other_than_files(chance, kinds, name)
@@ -201,15 +202,70 @@ def wrong_words(chance, words):
     return words[:1] + [word[:-1] if FORMATS.get(word.decode()) else word for word in words[1:]]
 
 
+def named_tracks(chance, kinds, form, name, steps, count):
+    """The files of a dump with sectors on so many tracks: short ones, since they are read by every format."""
+    files = dump_files(chance, kinds, form, name, steps, [])
+    for at in chance.sample(range(len(form.tracks)), min(count, len(form.tracks))):
+        cylinder, head = form.tracks[at]
+        made = track_stream(chance, kinds, form, at, chance.choice([1, 2])) if not one_in(chance, 5) else others_track(chance, kinds, form, at)
+        files[path_of(name, steps * cylinder, head)] = made
+    return files
+
+
 def case_identify(chance, kinds, built):
-    """A dump of a disk of any format, with sectors on a few tracks: short ones, since they are read by every format."""
+    """A dump of a disk of any format that has a name."""
     form = FORMATS[chance.choice(list(FORMATS))]
     steps = 2 if reaches_all(form) and one_in(chance, 3) else 1
     kinds |= {f"format {form.word}", "a dump to be named"} | ({"two steps for one"} if steps == 2 else set())
     name = dump_name(chance, kinds, 0)
-    files = dump_files(chance, kinds, form, name, steps, [])
-    for at in chance.sample(range(len(form.tracks)), 2):
-        cylinder, head = form.tracks[at]
-        made = track_stream(chance, kinds, form, at, chance.choice([1, 2])) if not one_in(chance, 5) else others_track(chance, kinds, form, at)
-        files[path_of(name, steps * cylinder, head)] = made
+    return [b"identify", name], named_tracks(chance, kinds, form, name, steps, 2)
+
+
+def case_numbers(chance, kinds, built):
+    """A dump of a disk by numbers, in some with the files of its heads changed, or with those of the second head named as the first."""
+    form = numbered(chance.choice(BY_NUMBERS))
+    steps = 2 if reaches_all(form) and one_in(chance, 3) else 1
+    kinds |= {f"format {form.word}", "a dump to be numbered"} | ({"two steps for one"} if steps == 2 else set())
+    name = dump_name(chance, kinds, 0)
+    files = named_tracks(chance, kinds, form, name, steps, 5)
+    if one_in(chance, 3):
+        kinds.add("headers that name another head")
+        for cylinder in {cylinder for cylinder, _ in form.tracks}:
+            first, second = (path_of(name, steps * cylinder, head) for head in (0, 1))
+            if len(files.get(first) or b"") > 1000 or len(files.get(second) or b"") > 1000:
+                files[first], files[second] = files.get(second) or FILLER, files.get(first) or FILLER
     return [b"identify", name], files
+
+
+def turning_file(chance, kinds, ticks):
+    """A file of some turns, of about so many ticks, as its index moments and a few transitions tell them."""
+    lengths = [ticks + chance.choice([0, 0, 1, -1, ticks // 200, ticks // 200 + 1, chance.randrange(-ticks // 150, ticks // 150 + 1)])
+               for _ in range(chance.choice([1, 1, 2, 3, 5]))]
+    indexes = [chance.randrange(ticks)]
+    for length in lengths:
+        indexes.append(indexes[-1] + max(length, 1))
+    # one transition at least stands behind the last index moment, mostly
+    last = [] if one_in(chance, 20) else [indexes[-1] + chance.randrange(ticks)]
+    times = sorted([chance.randrange(indexes[-1] + ticks) for _ in range(chance.choice([0, 1, 7, 200]))] + last)
+    return stream_of_times(times, indexes) + chance.choice([b"", b"", b"\0", chance.randbytes(chance.choice([7, 4096, 5000]))])
+
+
+def info_file(chance, kinds, ticks):
+    """A file that tells its turns, or one of any other kind."""
+    roll = chance.randrange(9)
+    if roll == 0:
+        return few(chance, kinds)
+    if roll == 1:
+        kinds.add("a file of another speed")
+        return turning_file(chance, kinds, chance.choice([1, 7, ticks * 5 // 6, ticks + ticks // 180, ticks + ticks // 220]))
+    return turning_file(chance, kinds, ticks)
+
+
+def case_info(chance, kinds, built):
+    """A dump of any tracks, whose files turn alike or not."""
+    name, ticks = dump_name(chance, kinds, 0), chance.choice([4805486, 4004571, 200, 1000, 199999])
+    cylinders, heads = chance.choice([1, 3, 3, 10, 99, 100]), chance.choice([1, 2])
+    places = [path_of(name, cylinder, head) for cylinder in range(cylinders) for head in range(heads)]
+    kinds.add("the turns of a dump")
+    files = {path: info_file(chance, kinds, ticks) for path in places}
+    return [b"info", name], lacking(chance, kinds, name, files)

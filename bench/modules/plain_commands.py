@@ -6,6 +6,8 @@ import re
 from collections import Counter
 
 import plain_dumps
+import plain_identity
+import plain_info
 from plain import FORMATS, decoded, from_g64, g64_file, stream_of, trial_line, unfit
 from plain_dumps import Dumps, Shelf
 from plain_map import picture
@@ -101,6 +103,10 @@ COMMANDS = {
 }
 
 
+# What a program has whose `identify` tells disks by their numbers, too.
+BY_NUMBERS = b"identify-numbers"
+
+
 def is_text(data):
     try:
         data.decode()
@@ -162,6 +168,7 @@ def track_named(form, word):
 # word in its place is told by itself.
 OWN_USAGES = {
     b"read": b"usage: flux read [--picture] [--double-step] FORMAT DUMP...", b"identify": b"usage: flux identify DUMP",
+    b"info": b"usage: flux info DUMP",
     b"show": b"usage: flux show [--double-step] [--copy N] FORMAT TRACK SECTOR DUMP...",
     b"rescue": b"usage: flux rescue FORMAT", b"map": b"usage: flux map FORMAT",
 }
@@ -215,7 +222,9 @@ def outcome(words, data, built, usage):
         steps, alone, form, k, sector, names = asked
         return plain_dumps.show(Dumps(Shelf(files), names, steps), form, k, sector, alone)
     if words[:1] == [b"identify"] and b"identify" in built and len(words) == 2 and words[1]:
-        return plain_dumps.identify(Shelf(files), words[1])
+        return plain_identity.identify(Shelf(files), words[1], BY_NUMBERS in built)
+    if words[:1] == [b"info"] and b"info" in built and len(words) == 2 and words[1]:
+        return plain_info.info(Shelf(files), words[1])
     if words and words[0] in COMMANDS and words[0] in built:
         takes, last, answer = COMMANDS[words[0]]
         form = FORMATS.get(words[1].decode()) if len(words) > 1 else None

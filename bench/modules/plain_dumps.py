@@ -1,10 +1,10 @@
-"""Disks read of their dumps, off the definitions: one verdict over the files of several dumps, what they have of one sector, and which disk a dump is of.
+"""Disks read of their dumps, off the definitions: one verdict over the files of several dumps, and what they have of one sector.
 
 Dumps lie on a shelf, which is a folder's files by their paths. A file that is not found, or that fails, is passed over.
 """
 import re
 
-from plain import FORMATS, Answer, as_controllers_read, controller_readings, turn_of, verdict_of
+from plain import Answer, as_controllers_read, controller_readings, turn_of, verdict_of
 from plain_map import Picture
 from plain_streams import Refused, Stream, recovered
 
@@ -278,34 +278,3 @@ def show(dumps, form, k, sector, alone=None):
     for number, (content, readings, first) in enumerate(copies):
         out += f"copy {number} readings {readings} {first}\n" + "".join(row_text(copies[0][0], content, at) for at in range(0, size, 16))
     return code, (out + line).encode(), notes.encode()
-
-
-# Which disk it is
-
-def candidates():
-    """The disks that a dump may be of: each format, with the steps that the drive made for one of its cylinders."""
-    return [(form, steps) for form in FORMATS.values() for steps in ((1, 2) if reaches_all(form) else (1,))]
-
-
-def identify(shelf, name):
-    """The outcome of `identify`: a line for each disk of which a sector is good, and the best of them."""
-    lines, found, failed, best = [], False, False, None
-    for form, steps in candidates():
-        dumps, answer = Dumps(shelf, [name], steps, clocks=(0,)), DumpAnswer(form)
-        if dumps.first_empty(form) is not None:
-            continue
-        found = True
-        read_tracks(dumps, form, answer, always=False)
-        failed |= answer.failed > 0
-        good, total = answer.number["good"], sum(answer.number.values())
-        if good:
-            words = "--double-step " * (steps - 1) + form.word
-            lines.append(f"{words} good {good} of {total} other {answer.whole}" + f" failed {answer.failed}" * (answer.failed > 0) + "\n")
-            # most good sectors, then fewest others that have data, then the smallest disk, then the table's order
-            rank = good, -answer.whole, -total
-            if best is None or rank > best[0]:
-                best = rank, words, good == total and answer.whole == 0
-    if not found:
-        return 2, b"", no_files_line(Dumps(shelf, [name]), 0)
-    lines.append(f"best {best[1] if best else 'none'}\n")
-    return 8 if failed else 0 if best and best[2] else 1, "".join(lines).encode(), b""

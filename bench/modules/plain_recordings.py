@@ -99,13 +99,16 @@ class Recording:
         """How many bytes the data of a header with this name have."""
         return self.size
 
-    def data(self, cells, place, end, size):
-        """All data of the header at the place by the second rule, as controllers read: at each sync up to the next header."""
+    def placed_data(self, cells, place, end, size):
+        """All data of the header at the place by the second rule, as controllers read: at each sync up to the next header, with its place."""
         nearest = next((other for other in in_reach(cells, end, [self.sync]) if self.name(cells, other)), len(cells))
         for q in self.data_places(cells, end):
             held = self.content(cells, place, q, size) if q <= nearest else None
             if held and unbroken(cells, q, held[1]) and not started_anew(cells, place, held[1]):
-                yield held[0]
+                yield q, held[0]
+
+    def data(self, cells, place, end, size):
+        return (content for _, content in self.placed_data(cells, place, end, size))
 
 
 def ibm_size(name):

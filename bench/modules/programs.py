@@ -5,6 +5,7 @@ import subprocess
 import sys
 import tempfile
 
+import plain
 import plain_commands
 
 
@@ -45,7 +46,7 @@ PROBES = {b"decode": [b"ibm-3740"], b"report": [b"ibm-3740"], b"write": [b"ibm-3
           b"decode-folder": [b"apple-do", b"/nowhere"]}
 
 # The same of words that the usage line does not name.
-MORE_PROBES = {b"rescue": [b"apple-do"], b"map": [b"apple-do"], b"read": [b"apple-do", b"/nowhere"], b"identify": [b"/nowhere"],
+MORE_PROBES = {b"rescue": [b"apple-do"], b"map": [b"apple-do"], b"read": [b"apple-do", b"/nowhere"], b"identify": [b"/nowhere"], b"info": [b"/nowhere"],
                b"show": [b"apple-do", b"00.0", b"00", b"/nowhere"]}
 
 
@@ -57,4 +58,12 @@ def commands_of(program):
         sys.exit(f"no usage line of flux: {usage!r}")
     offered = [word for word in PROBES if b"| " + word + b" " in usage]
     asked = {word: PROBES[word] for word in offered} | MORE_PROBES
-    return usage, {word for word, rest in asked.items() if run(program, [word, *rest], b"")[0] != 3}
+    built = {word for word, rest in asked.items() if run(program, [word, *rest], b"")[0] != 3}
+    return usage, built | ({plain_commands.BY_NUMBERS} if tells_numbers(program) else set())
+
+
+def tells_numbers(program):
+    """Whether `identify` tells a disk that has no name by its numbers."""
+    form = plain.numbered("mfm-dd-1x1x1x128@7")
+    stream = plain.stream_of(form.ring_of(bytes(128), 0), form.nominal(0))
+    return b"mfm-dd-1x1x1x128@7" in run(program, [b"identify", b"dump"], {b"dump/track00.0.raw": stream})[1]
