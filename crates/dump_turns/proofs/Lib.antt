@@ -1,0 +1,9 @@
+pub mod Founds
+pub mod HeldStreams
+pub mod Means
+pub mod Middles
+pub mod One
+pub mod Openings
+pub mod Reaching
+pub mod Tellings
+pub mod Turning

@@ -1,0 +1,9 @@
+use Rattle.std.proofs.Common.{refl, append_assoc}
+use Rattle.dump_turns.specs.Lines.{passed_text}
+use Rattle.dump_turns.proofs.lines.passed_line.Goals as goal
+
+pub returns-in-Refused : goal.returns-in-Refused
+unfolding passed_text
+returns-in-Refused c =
+    rw (c.in-Refused.is, c.put-in-Refused-2.ensures.bytes, c.put_fault.ensures.bytes, c.put-in-Refused.ensures.bytes, c.put_named.ensures.bytes, c.put_track.ensures.bytes, c.new-line.ensures)
+    (simp append_assoc refl)

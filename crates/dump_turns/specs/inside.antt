@@ -1,0 +1,4 @@
+-- What the crate's own functions say to one another: no public contract cites it.
+pub mod Opened
+pub mod Reached
+pub mod Told

@@ -1,0 +1,52 @@
+//! The memory for telling the revolutions of a dump.
+
+use crate::files::MOST_BYTES;
+use crate::found::Found;
+use flux_base::Memory;
+use kryo_stream::StreamRoom;
+use std::alloc::Global;
+use std::marker::Model;
+
+/// The most files: of 99 cylinders and two heads.
+const MOST_FILES: usize = 198;
+
+/// All memory that telling the revolutions of a dump takes, less than 128 MiB. It serves once.
+#[derive(Drop)]
+pub struct TurnsRoom {
+    pub(crate) stream: StreamRoom,
+    /// A file's bytes.
+    pub(crate) buffer: Vec<u8>,
+    /// What is found of each file so far.
+    pub(crate) founds: Vec<Found>,
+    /// The means of the files that are read.
+    pub(crate) means: Vec<u64>,
+}
+
+impl Model for TurnsRoom {
+    ghost use Rattle.std.specs.Prelude.{◌≡◌, ◌≤◌, [], vec_len};
+    ghost use Rattle.std.specs.Vec.{vec_capacity};
+
+    ghost Value = { Unit {0} };
+
+    ghost view = { λ room. record {} };
+
+    ghost invariant = { λ room. (vec_len room.buffer ≡ 8388608)
+        × ((room.founds.items ≡ []) × (198 ≤ vec_capacity room.founds))
+        × ((room.means.items ≡ []) × (198 ≤ vec_capacity room.means)) };
+}
+
+impl TurnsRoom {
+    /// Takes it.
+    pub fn reserve(alloc: Global) -> Result<TurnsRoom, Memory> {
+        let stream = StreamRoom::reserve(alloc)?;
+        let buffer = vec![in alloc; 0u8; MOST_BYTES]?;
+        let founds = Vec::with_capacity(alloc, MOST_FILES)?;
+        let means = Vec::with_capacity(alloc, MOST_FILES)?;
+        Ok(TurnsRoom {
+            stream,
+            buffer,
+            founds,
+            means,
+        })
+    }
+}
