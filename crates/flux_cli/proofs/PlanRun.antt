@@ -279,7 +279,7 @@ module _ {S W N : Type 0} (plan : Plan) (output : Output) (format : Format) (bef
         ends-with Did NotesFaultStatus status mid after (did (Err NotesFault) NotesFaultStatus (at mid) t tt
         (record { taken = t.taken; later = t.later; input = t.input; place = inl t.says }, t.blames.notes.cause)) is
     ended (Err (Refused stop)) status mid after t is =
-        ends-refused Did (stop_text plan.naming (record { track = track; capture = capture; block = block; fault = fault })) status mid after
+        ends-refused Did (stop_text plan.naming stop) status mid after
         (planned-refused mid after stop t) (planned-cut-refusal mid after stop t) is
 
 -- for all objects
