@@ -23,7 +23,8 @@ import time
 
 import cases
 import plain_commands
-from programs import commands_of, put, run
+from plain_files import Outside
+from programs import commands_of, put_all, run
 
 
 def options():
@@ -51,33 +52,40 @@ def one(task):
 
 def answer_of(words, wanted):
     """The code, and the fault's name or the verdicts that it has."""
-    code, out, notes = wanted
+    code, out, notes, *_ = wanted
     last = notes.splitlines()[-1:] or [b""]
     found = [f"code {code}"]
     if code == 2:
         fault = last[0].decode().split()
-        found.append("refused: " + next((part for part in fault if part[0].isupper()), "image"))
+        found.append("refused: " + next((part for part in fault if part[0].isupper()), fault[3] if fault[1:2] == ["track"] else "image"))
+    if code == 8 and words[0] in (b"write", b"split"):
+        found.append("failed: " + last[0].decode().split()[1])
     text = (out if words and words[0] in (b"report", b"map") else notes).decode()
     verdicts = re.findall(r"(?:^|<title>)[0-9]{2}\.[01] [0-9]{2,3} ([a-z]+) ", text, re.MULTILINE)
     others = re.findall(r"^[0-9]{2}\.[01] (other|others not told|traces|dump [0-9] [a-z]+)\b", text, re.MULTILINE)
     return found + sorted({"verdict " + verdict for verdict in verdicts} | {"line " + re.sub("[0-9]", "N", other) for other in others})
 
 
-def size_of(data):
-    return sum(len(content or b"") for content in data.values()) if isinstance(data, dict) else len(data)
+def files_of(data):
+    """All that a case puts in, as files by their paths."""
+    if isinstance(data, Outside):
+        return data.files | {"input": data.given}
+    return data if isinstance(data, dict) else {"input": data}
 
 
 def keep(folder, number, words, data, wanted, got):
     folder = pathlib.Path(folder)
     folder.mkdir(parents=True, exist_ok=True)
     shutil.rmtree(folder / "files", ignore_errors=True)
-    for path, content in (data if isinstance(data, dict) else {"input": data}).items():
-        put(folder / "files" / os.fsdecode(path), content)
+    put_all(folder / "files", files_of(data))
     (folder / "words").write_text(f"case {number}: {words}\n")
-    for name, (code, out, notes) in (("wanted", wanted), ("got", got)):
+    for name, (code, out, notes, *left) in (("wanted", wanted), ("got", got)):
         (folder / f"{name}.code").write_text(f"{code}\n")
         (folder / f"{name}.out").write_bytes(out)
         (folder / f"{name}.err").write_bytes(notes)
+        shutil.rmtree(folder / f"{name}.files", ignore_errors=True)
+        for files in left:
+            put_all(folder / f"{name}.files", files)
 
 
 def table(title, counter):
@@ -107,7 +115,7 @@ def compare(args, work):
             answers.update(answer)
             if differs:
                 different[name] += 1
-                size = size_of(differs[1])
+                size = sum(len(content or b"") for content in files_of(differs[1]).values())
                 if first is None or size < first:
                     first = size
                     keep(args.keep, number, *differs)

@@ -4,6 +4,7 @@ import struct
 import plain
 import plain_commands
 from case_dumps import case_folder, case_identify, case_info, case_numbers, case_others, case_read, case_show, few
+from case_files import case_split, case_write_files
 from case_streams import FILLER, SHORTEST, faulty, few_blocks, one_in, spell, too_long
 from case_tracks import noisy_track, random_data, track_stream, whole_track
 from plain import FORMATS
@@ -253,6 +254,8 @@ TABLE = [
     ("dumps to be named", 30, case_identify, b"identify"),
     ("dumps to be numbered", 20, case_numbers, plain_commands.BY_NUMBERS),
     ("turns of dumps", 100, case_info, b"info"),
+    ("images as files", 60, case_write_files, plain_commands.WRITE_FOLDER),
+    ("streams to be cut apart", 150, case_split, b"split"),
     ("trials", 8, case_trial, b"trial"),
 ]
 

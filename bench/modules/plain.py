@@ -172,6 +172,11 @@ def any_format(chance):
     return numbered(chance.choice(BY_NUMBERS)) if chance.randrange(4) == 0 else chance.choice(list(FORMATS.values()))
 
 
+def wrong_size(form, data):
+    """The outcome where the bytes are not an image's in number."""
+    return 2, b"", f"refused image {min(len(data), form.image_bytes + 1)} wanted {form.image_bytes}\n".encode()
+
+
 # Readings, verdicts and lines
 
 def readings(recording, cells, cylinder, head):

@@ -1,6 +1,6 @@
 """What the words of a command come to: the exit code, and the bytes for standard output and for standard error.
 
-`outcome(words, data, ..)` is that of any words, over an input's bytes or over the files of a folder by their paths.
+`outcome(words, data, ..)` is that of any words, over an input's bytes, over the files of a folder by their paths, or over both, where files are made.
 """
 import re
 from collections import Counter
@@ -8,8 +8,9 @@ from collections import Counter
 import plain_dumps
 import plain_identity
 import plain_info
-from plain import FORMATS, decoded, from_g64, g64_file, stream_of, trial_line, unfit
+from plain import FORMATS, decoded, from_g64, g64_file, stream_of, trial_line, unfit, wrong_size
 from plain_dumps import Dumps, Shelf
+from plain_files import Outside, split, write_files
 from plain_map import picture
 from plain_streams import Refused, Stream
 
@@ -40,10 +41,6 @@ def drawn(form, data):
     lines = list(answer.lines)
     code = 2 if refused else answer.end()
     return code, picture(form, lines, refused or answer.lines[-1]).encode(), (refused or "").encode()
-
-
-def wrong_size(form, data):
-    return 2, b"", f"refused image {min(len(data), form.image_bytes + 1)} wanted {form.image_bytes}\n".encode()
 
 
 def write(form, data):
@@ -170,8 +167,10 @@ OWN_USAGES = {
     b"read": b"usage: flux read [--picture] [--double-step] FORMAT DUMP...", b"identify": b"usage: flux identify DUMP",
     b"info": b"usage: flux info DUMP",
     b"show": b"usage: flux show [--double-step] [--copy N] FORMAT TRACK SECTOR DUMP...",
-    b"rescue": b"usage: flux rescue FORMAT", b"map": b"usage: flux map FORMAT",
+    b"rescue": b"usage: flux rescue FORMAT", b"map": b"usage: flux map FORMAT", b"split": b"usage: flux split FOLDER HEADS",
 }
+WRITE_FOLDER = b"write --folder"
+FOLDER_USAGE = b"usage: flux write [--folder FOLDER] FORMAT"
 ASK_FORMATS = b"read", b"rescue", b"map"
 
 # What people call a disk or the file of its image, in letters of any case.
@@ -196,6 +195,8 @@ def differing(name, word):
 
 def wrong_words(words, built, usage):
     first = words[0] if words else b""
+    if words[:2] == WRITE_FOLDER.split() and WRITE_FOLDER in built:
+        return FOLDER_USAGE
     if first not in OWN_USAGES or first not in built:
         return usage
     word = next((word for word in words[1:] if not word.startswith(b"-")), None)
@@ -207,13 +208,28 @@ def wrong_words(words, built, usage):
     return b"no format " + word + b"; " + why if why else OWN_USAGES[first]
 
 
+def files_asked(words, built):
+    """What words ask for that make files, if they do, of what lies outside. A folder whose name is that of a track's file would be read as one."""
+    if len(words) < 3 or not words[-2] or plain_dumps.names_file(words[-2]):
+        return None
+    form = FORMATS.get(words[-1].decode())
+    if words[:-2] == WRITE_FOLDER.split() and WRITE_FOLDER in built and form:
+        return lambda outside: write_files(form, words[-2], outside)
+    if words[:-2] == [b"split"] and b"split" in built and words[-1] in (b"1", b"2"):
+        return lambda outside: split(words[-2], int(words[-1]), outside)
+    return None
+
+
 def outcome(words, data, built, usage):
     """The code and the bytes of standard output and standard error, of a program that has these commands and this usage line. Words that
-    name files have the files by their paths in place of the input."""
+    name files have the files by their paths in place of the input; those that make files have both, and what lies there at the end."""
     if not all(map(is_text, words)):
         return 9, b"", b""
     if words == [b"turns"]:
         return turns(data)
+    if isinstance(data, Outside):
+        makes = files_asked(words, built)
+        return makes(data) if makes else (3, b"", wrong_words(words, built, usage) + b"\n", data.left())
     files = data if isinstance(data, dict) else {}
     if words[:1] == [b"read"] and b"read" in built and (asked := dumps_asked(words)):
         drawn, steps, form, names = asked

@@ -1,21 +1,26 @@
 """What a program answers, and which commands it has."""
 import os
 import pathlib
+import resource
 import subprocess
 import sys
 import tempfile
 
 import plain
 import plain_commands
+from plain_files import Outside
 
 
 def run(program, words, data, work=None):
     """The program's code and bytes, over a pipe, or with a folder to work in over a file; or in a folder that has the files of a dictionary by
-    their paths, None for a folder."""
+    their paths, None for a folder; or there over a pipe too, where it makes files, and then what lies there at the end."""
+    if isinstance(data, Outside):
+        with tempfile.TemporaryDirectory(dir=work) as folder:
+            put_all(folder, data.files)
+            return *made_by(program, words, data, folder), lying_in(folder)
     if isinstance(data, dict):
         with tempfile.TemporaryDirectory(dir=work) as folder:
-            for path, content in data.items():
-                put(pathlib.Path(folder, os.fsdecode(path)), content)
+            put_all(folder, data)
             return answer_of(program, words, subprocess.DEVNULL, folder)
     if work:
         with tempfile.TemporaryFile(dir=work) as source:
@@ -26,11 +31,18 @@ def run(program, words, data, work=None):
     return done.returncode, done.stdout, done.stderr
 
 
+def put_all(folder, files):
+    for path, content in files.items():
+        put(pathlib.Path(folder, os.fsdecode(path)), content)
+
+
 def put(path, content):
-    """Makes a file, or a folder."""
+    """Makes a file, or a folder, or a link to a path."""
     path.parent.mkdir(parents=True, exist_ok=True)
-    if content is None:
-        path.mkdir()
+    if isinstance(content, pathlib.Path):
+        path.symlink_to(content)
+    elif content is None:
+        path.mkdir(exist_ok=True)
     else:
         path.write_bytes(content)
 
@@ -40,6 +52,21 @@ def answer_of(program, words, source, folder=None):
     return done.returncode, done.stdout, done.stderr
 
 
+def made_by(program, words, outside, folder):
+    """The answer over standard input, where no file gets more bytes than a bound: a write beyond it fails, as on a full disk."""
+    bound = lambda: outside.most is None or resource.setrlimit(resource.RLIMIT_FSIZE, (outside.most, outside.most))
+    # (The signal of such a write stays ignored, as it is here.)
+    done = subprocess.run([os.path.abspath(program).encode(), *words], input=outside.given, cwd=folder, capture_output=True, preexec_fn=bound,
+                          restore_signals=False)
+    return done.returncode, done.stdout, done.stderr
+
+
+def lying_in(folder):
+    """All files below the folder by their paths, None for folders, and for links where they lead."""
+    content = lambda path: path.readlink() if path.is_symlink() else None if path.is_dir() else path.read_bytes()
+    return {os.fsencode(path.relative_to(folder)): content(path) for path in pathlib.Path(folder).rglob("*")}
+
+
 # A right command over no input, for each word that a usage line may offer.
 PROBES = {b"decode": [b"ibm-3740"], b"report": [b"ibm-3740"], b"write": [b"ibm-3740"], b"trial": [b"apple-do", b"0"],
           b"to-g64": [b"c1541"], b"from-g64": [b"c1541"], b"decode-set": [b"apple-do", b"2"],
@@ -47,7 +74,8 @@ PROBES = {b"decode": [b"ibm-3740"], b"report": [b"ibm-3740"], b"write": [b"ibm-3
 
 # The same of words that the usage line does not name.
 MORE_PROBES = {b"rescue": [b"apple-do"], b"map": [b"apple-do"], b"read": [b"apple-do", b"/nowhere"], b"identify": [b"/nowhere"], b"info": [b"/nowhere"],
-               b"show": [b"apple-do", b"00.0", b"00", b"/nowhere"]}
+               b"show": [b"apple-do", b"00.0", b"00", b"/nowhere"],
+               plain_commands.WRITE_FOLDER: [b"/nowhere/dump", b"apple-do"], b"split": [b"/nowhere/dump", b"1"]}
 
 
 def commands_of(program):
@@ -58,7 +86,7 @@ def commands_of(program):
         sys.exit(f"no usage line of flux: {usage!r}")
     offered = [word for word in PROBES if b"| " + word + b" " in usage]
     asked = {word: PROBES[word] for word in offered} | MORE_PROBES
-    built = {word for word, rest in asked.items() if run(program, [word, *rest], b"")[0] != 3}
+    built = {word for word, rest in asked.items() if run(program, [*word.split(), *rest], b"")[0] != 3}
     return usage, built | ({plain_commands.BY_NUMBERS} if tells_numbers(program) else set())
 
 
