@@ -15,50 +15,7 @@ use Rattle.disk_map.specs.Places.{numbers_across, top_of, width_of}
 use Rattle.disk_map.specs.declared.kind.Kind.{Kind}
 use Rattle.disk_map.specs.declared.kind.Kind.TheVariants.{Good, Contradictory, Bad, Missing}
 use Rattle.disk_map.specs.declared.layout.Layout.{Layout}
-
--- the numbers at the sides of a grid: every fifth cylinder, and the sectors of all formats
--- that have a name, and up to 32
-unfoldable pub labels_text : List ℕ
-labels_text =
-    codes "<defs><g id=\"columns\" text-anchor=\"middle\">\n"
-    ++ codes
-    "<text x=\"5\" y=\"9\">0</text><text x=\"65\" y=\"9\">5</text><text x=\"125\" y=\"9\">10</text><text x=\"185\" y=\"9\">15</text>\n"
-    ++ codes
-    "<text x=\"245\" y=\"9\">20</text><text x=\"305\" y=\"9\">25</text><text x=\"365\" y=\"9\">30</text><text x=\"425\" y=\"9\">35</text>\n"
-    ++ codes
-    "<text x=\"485\" y=\"9\">40</text><text x=\"545\" y=\"9\">45</text><text x=\"605\" y=\"9\">50</text><text x=\"665\" y=\"9\">55</text>\n"
-    ++ codes
-    "<text x=\"725\" y=\"9\">60</text><text x=\"785\" y=\"9\">65</text><text x=\"845\" y=\"9\">70</text><text x=\"905\" y=\"9\">75</text>\n"
-    ++ codes
-    "<text x=\"965\" y=\"9\">80</text><text x=\"1025\" y=\"9\">85</text><text x=\"1085\" y=\"9\">90</text><text x=\"1145\" y=\"9\">95</text>\n"
-    ++ codes "</g><g id=\"rows\" text-anchor=\"end\">\n"
-    ++ codes
-    "<text x=\"18\" y=\"9\">0</text><text x=\"18\" y=\"21\">1</text><text x=\"18\" y=\"33\">2</text><text x=\"18\" y=\"45\">3</text>\n"
-    ++ codes
-    "<text x=\"18\" y=\"57\">4</text><text x=\"18\" y=\"69\">5</text><text x=\"18\" y=\"81\">6</text><text x=\"18\" y=\"93\">7</text>\n"
-    ++ codes
-    "<text x=\"18\" y=\"105\">8</text><text x=\"18\" y=\"117\">9</text><text x=\"18\" y=\"129\">10</text><text x=\"18\" y=\"141\">11</text>\n"
-    ++ codes
-    "<text x=\"18\" y=\"153\">12</text><text x=\"18\" y=\"165\">13</text><text x=\"18\" y=\"177\">14</text><text x=\"18\" y=\"189\">15</text>\n"
-    ++ codes
-    "<text x=\"18\" y=\"201\">16</text><text x=\"18\" y=\"213\">17</text><text x=\"18\" y=\"225\">18</text><text x=\"18\" y=\"237\">19</text>\n"
-    ++ codes
-    "<text x=\"18\" y=\"249\">20</text><text x=\"18\" y=\"261\">21</text><text x=\"18\" y=\"273\">22</text><text x=\"18\" y=\"285\">23</text>\n"
-    ++ codes
-    "<text x=\"18\" y=\"297\">24</text><text x=\"18\" y=\"309\">25</text><text x=\"18\" y=\"321\">26</text><text x=\"18\" y=\"333\">27</text>\n"
-    ++ codes
-    "<text x=\"18\" y=\"345\">28</text><text x=\"18\" y=\"357\">29</text><text x=\"18\" y=\"369\">30</text><text x=\"18\" y=\"381\">31</text>\n"
-    ++ codes
-    "<text x=\"18\" y=\"393\">32</text><text x=\"18\" y=\"789\">65</text><text x=\"18\" y=\"801\">66</text><text x=\"18\" y=\"813\">67</text>\n"
-    ++ codes
-    "<text x=\"18\" y=\"825\">68</text><text x=\"18\" y=\"837\">69</text><text x=\"18\" y=\"849\">70</text><text x=\"18\" y=\"861\">71</text>\n"
-    ++ codes
-    "<text x=\"18\" y=\"873\">72</text><text x=\"18\" y=\"885\">73</text><text x=\"18\" y=\"2325\">193</text><text x=\"18\" y=\"2337\">194</text>\n"
-    ++ codes
-    "<text x=\"18\" y=\"2349\">195</text><text x=\"18\" y=\"2361\">196</text><text x=\"18\" y=\"2373\">197</text><text x=\"18\" y=\"2385\">198</text>\n"
-    ++ codes
-    "<text x=\"18\" y=\"2397\">199</text><text x=\"18\" y=\"2409\">200</text><text x=\"18\" y=\"2421\">201</text>\n"
-    ++ codes "</g></defs>\n"
+use Rattle.disk_map.specs.declared.texts.TheConstants.{LABELS}
 
 -- the picture's begin: its size, its title, which names the command and the format, and its ground
 unfoldable pub begin_text : (command : List ℕ) → Format → Layout → List ℕ
@@ -99,7 +56,7 @@ grid_text layout head = heading_text layout head ++ ground_text layout ++ row_la
 -- the numbers at the sides, and the empty grid of each head
 abbrev pub grids_text : Layout → List ℕ
 grids_text layout =
-    labels_text ++ flat_map (grid_text layout) (range_with_len 0 (layout.last.head + 1))
+    LABELS.now ++ flat_map (grid_text layout) (range_with_len 0 (layout.last.head + 1))
 
 -- all that stands before the fields, in a picture that this command draws
 abbrev pub top_by : (command : List ℕ) → Format → List ℕ

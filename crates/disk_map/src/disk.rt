@@ -18,7 +18,7 @@ ghost use Rattle.disk_map.specs.Texts.{grid_text, grids_text, top_by};
 use crate::field_writer::FieldWriter;
 use crate::layout::Layout;
 use crate::text::write_text;
-use crate::texts::{begin_text, foot_text, grid_text, labels};
+use crate::texts::{LABELS, begin_text, foot_text, grid_text};
 use flux_base::{CountingSink, Failed, Sink, Source, write_whole};
 use flux_engine::{
     DiskRoom, Plan, RefusedCapture, Stopped, decode_planned_tracks, no_totals, room_format,
@@ -132,7 +132,7 @@ pub(crate) fn write_top<P: Sink>(
 fn write_grids<P: Sink>(layout: Layout, picture: &mut P) -> Result<(), Failed>
     ensures { Puts (sink_at P.Sink picture.old) (sink_at P.Sink picture.new) (grids_text layout) result }
 {
-    match write_whole(picture, labels().as_bytes()) {
+    match write_whole(picture, LABELS.as_bytes()) {
         Ok(()) => write_each_grid(layout, picture),
         Err(failed) => Err(failed),
     }

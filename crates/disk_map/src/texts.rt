@@ -3,7 +3,7 @@
 ghost use Rattle.std.specs.Prelude.{◌≡◌, ◌+◌, ◌≤◌, ◌<◌, ◌++◌, length};
 ghost use Rattle.arrayvec.specs.ArrayString.{array_string_len};
 ghost use Rattle.disk_map.specs.Texts.{begin_text, count_of, counts_text, ending_text, field_by, field_text, foot_text};
-ghost use Rattle.disk_map.specs.Texts.{grid_text, heading_text, labels_text, legend_row, legend_text, mark_text};
+ghost use Rattle.disk_map.specs.Texts.{grid_text, heading_text, legend_row, legend_text, mark_text};
 ghost use Rattle.disk_map.specs.Texts.{row_labels_text, ground_text};
 
 use crate::kind::{Kind, colour_of, kind_of, name_of, shape_of};
@@ -16,7 +16,7 @@ use turn_merge::Verdict;
 
 /// The numbers at the sides of a grid, of which each grid shows those that it has: every fifth cylinder, and the
 /// sectors of all formats that have a name, and up to 32.
-const LABELS: &str = "\
+pub(crate) const LABELS: &str = "\
 <defs><g id=\"columns\" text-anchor=\"middle\">
 <text x=\"5\" y=\"9\">0</text><text x=\"65\" y=\"9\">5</text><text x=\"125\" y=\"9\">10</text><text x=\"185\" y=\"9\">15</text>
 <text x=\"245\" y=\"9\">20</text><text x=\"305\" y=\"9\">25</text><text x=\"365\" y=\"9\">30</text><text x=\"425\" y=\"9\">35</text>
@@ -39,14 +39,6 @@ const LABELS: &str = "\
 <text x=\"18\" y=\"2397\">199</text><text x=\"18\" y=\"2409\">200</text><text x=\"18\" y=\"2421\">201</text>
 </g></defs>
 ";
-
-/// The numbers at the sides, as contracts see them.
-#[tactic(auto, unfolding(crate::specs::Texts::labels_text))]
-pub(crate) fn labels() -> &'static str
-    ensures { result.now ≡ labels_text }
-{
-    LABELS
-}
 
 /// The picture's begin: its size, its title, which names the command and the format, and its ground.
 pub(crate) fn begin_text(command: &str, format: Format, layout: Layout) -> Text
