@@ -3,7 +3,7 @@ use Rattle.std.specs.Prelude.{◌≡◌, ◌<◌, refl}
 use Rattle.std.proofs.Common.{arith, rules}
 use Rattle.flux_base.specs.declared.track.TrackId.{TrackId}
 use Rattle.ibm_disks.specs.Disks.{rate_of, track_of_disk}
-use Rattle.ibm_disks.specs.Plans.{FillAt, density_of}
+use Rattle.ibm_disks.specs.GapPlans.{FillAt, density_of}
 use Rattle.ibm_disks.specs.declared.disk.IbmDisk.{IbmDisk}
 use Rattle.ibm_disks.specs.declared.rate.Density.{Density}
 use Rattle.ibm_disks.specs.declared.rate.Density.TheVariants.{Single as SingleDensity, Double as DoubleDensity}

@@ -11,7 +11,7 @@ use Rattle.commodore_gcr.specs.declared.drive.CommodoreDrive.TheVariants.{C1541 
 use Rattle.commodore_gcr.specs.declared.drive.CommodoreDrive.TheVariants.{C8050 as Drive8050}
 use Rattle.commodore_gcr.specs.declared.recording.CommodoreGcr.{CommodoreGcr}
 use Rattle.ibm_disks.specs.Disks.{rate_of, track_of_disk}
-use Rattle.ibm_disks.specs.Plans.{density_of}
+use Rattle.ibm_disks.specs.GapPlans.{density_of}
 use Rattle.ibm_disks.specs.declared.rate.Density.{Density}
 use Rattle.ibm_disks.specs.declared.rate.Density.TheVariants.{Single as SingleDensity}
 use Rattle.ibm_disks.specs.declared.rate.Density.TheVariants.{Double as DoubleDensity}

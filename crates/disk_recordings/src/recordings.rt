@@ -6,7 +6,7 @@ ghost use Rattle.disk_recordings.specs.Ids.{id_place as id_place_in};
 ghost use Rattle.disk_recordings.specs.Members.{as_controllers_read};
 ghost use Rattle.disk_recordings.specs.Recordings.{commodore_by, numbered_by, recording_of as recording_in};
 ghost use Rattle.ibm_disks.specs.Disks.{rate_of, track_of_disk};
-ghost use Rattle.ibm_disks.specs.Plans.{density_of};
+ghost use Rattle.ibm_disks.specs.GapPlans.{density_of};
 
 use crate::disk_id::{DiskId, IdPlace};
 use amiga_mfm::AmigaMfm;

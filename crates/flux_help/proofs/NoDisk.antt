@@ -4,9 +4,9 @@ use Rattle.std.specs.Option.{option_and_then}
 use Rattle.std.proofs.Common.{ap, arith, sym, subst, ◌∙◌}
 use Rattle.std.proofs.lemmas.Bool.{and_from, and_parts, le-leb, leb-true}
 use Rattle.ibm_disks.specs.Disks.{HasTrack, IsDiskOf, are_few, sound, track_of_disk}
-use Rattle.ibm_disks.specs.Plans.{FillsTrackOf, density_of, track_at, track_of}
+use Rattle.ibm_disks.specs.GapPlans.{FillsTrackOf, density_of, track_at, track_of}
 use Rattle.ibm_disks.specs.lemmas.DiskLaws.{is-sound}
-use Rattle.ibm_disks.specs.lemmas.PlanLaws.{filled}
+use Rattle.ibm_disks.specs.lemmas.GapPlanLaws.{filled}
 use Rattle.ibm_disks.specs.declared.disk.IbmDisk.{IbmDisk}
 use Rattle.ibm_disks.specs.declared.rate.Rate.{Rate}
 use Rattle.ibm_disks.specs.declared.sector_size.SectorSize.{SectorSize}

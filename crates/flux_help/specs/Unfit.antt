@@ -4,7 +4,7 @@ use Rattle.std.specs.Prelude.{[], ◌∷◌, ◌++◌, codes, decimal, find, Opt
 use Rattle.std.specs.Option.{option_and_then}
 use Rattle.ibm_disks.specs.Disks.{IsDiskOf, are_few}
 use Rattle.ibm_disks.specs.Numbers.{size_of}
-use Rattle.ibm_disks.specs.Plans.{track_bytes, track_of}
+use Rattle.ibm_disks.specs.GapPlans.{track_bytes, track_of}
 use Rattle.ibm_disks.specs.declared.disk.IbmDisk.{IbmDisk}
 use Rattle.ibm_disks.specs.declared.sector_size.SectorSize.{SectorSize}
 use Rattle.ibm_disks.specs.declared.sector_size.SectorSize.TheVariants.{Bytes128, Bytes256}

@@ -4,7 +4,7 @@ ghost use Rattle.std.specs.Prelude.{◌≡◌, ◌+◌, ◌≤◌, ◌++◌, ◌
 ghost use Rattle.std.specs.Option.{option_map};
 ghost use Rattle.arrayvec.specs.ArrayString.{array_string_len};
 ghost use Rattle.ibm_disks.specs.Disks.{are_few};
-ghost use Rattle.ibm_disks.specs.Plans.{IsCountOfSectors};
+ghost use Rattle.ibm_disks.specs.GapPlans.{IsCountOfSectors};
 ghost use Rattle.flux_help.specs.Unfit.{UnfitIsNoDisk, first_of, first_unfit, last_sector_text, size_with, track_text};
 ghost use Rattle.flux_help.specs.Unfit.{unfit_text};
 ghost use Rattle.flux_help.specs.WrittenNumbers.{written_numbers};

@@ -19,7 +19,7 @@ use Rattle.ibm_disks.specs.declared.track_numbers.TrackNumbers.{TrackNumbers}
 use Rattle.ibm_disks.specs.Disks.{IsNameOf, IsWordOfDisk, WritesDisk, is_disk, pc_720, sound}
 use Rattle.ibm_disks.specs.Named.{NamedDisk, named_disks, row_of, same_disk, same_track}
 use Rattle.ibm_disks.specs.Numbers.{mfm_before, size_of}
-use Rattle.ibm_disks.specs.Plans.{track_bytes}
+use Rattle.ibm_disks.specs.GapPlans.{track_bytes}
 use Rattle.ibm_disks.specs.Words.{begins_numbers}
 use Rattle.ibm_disks.proofs.Tracks.{one-size, same-disk}
 

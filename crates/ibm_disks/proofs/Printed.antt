@@ -3,7 +3,7 @@ use Rattle.std.specs.Prelude.{◌≡◌, ◌⊎◌, ℕ, ◌+◌, List, [], ◌�
 use Rattle.std.proofs.Common.{ap, append-nil, inl, inr, sym, subst, ◌∙◌}
 use Rattle.std.proofs.lemmas.Bool.{eqb-true}
 use Rattle.ibm_disks.specs.declared.disk.IbmDisk.{IbmDisk}
-use Rattle.ibm_disks.specs.declared.plan.Plan.{Plan}
+use Rattle.ibm_disks.specs.declared.gap_plan.GapPlan.{GapPlan}
 use Rattle.ibm_disks.specs.declared.rate.Density.{Density}
 use Rattle.ibm_disks.specs.declared.rate.Density.TheVariants.{Single as SingleDensity, Double as DoubleDensity}
 use Rattle.ibm_disks.specs.declared.rate.Rate.{Rate}
@@ -14,14 +14,14 @@ use Rattle.ibm_disks.specs.declared.word.DiskNumbers.{DiskNumbers}
 use Rattle.ibm_disks.specs.Disks.{IsDiskOf, IsWordOfDisk, PrintedWordsNameDisks, WordsNameDisks, WritesDisk, cylinders_of, disk_word, heads_of, rate_of, sound, track_of_disk, word_by}
 use Rattle.ibm_disks.specs.Named.{NamedDisk, named_as, named_disks, same_disk}
 use Rattle.ibm_disks.specs.Numbers.{FM_AROUND, fm_before, mfm_around, mfm_before, size_of}
-use Rattle.ibm_disks.specs.Plans.{bare_track, density_of, if_wide, indexed_track, track_at, track_of}
+use Rattle.ibm_disks.specs.GapPlans.{bare_track, density_of, if_wide, indexed_track, track_at, track_of}
 use Rattle.ibm_disks.specs.Words.{EndsWith, IsWordOf, first_word}
 use Rattle.ibm_disks.specs.lemmas.WordLaws.{writes-begins}
 use Rattle.ibm_disks.proofs.Names.{Finds, finds, named-found, named-made, no-numbers, one-name, same-is}
 use Rattle.ibm_disks.proofs.Tracks.{chosen-is, one-written, same-numbers, some-one}
 
 -- a track that was made has the sectors that were asked for
-abbrev AreAsked : Plan → TrackNumbers → Type 0
+abbrev AreAsked : GapPlan → TrackNumbers → Type 0
 AreAsked plan track = (track.sectors ≡ plan.sectors) × (track.first_sector ≡ plan.first_sector) × (track.size ≡ plan.size)
 
 one_of : (wide : Bool) (track : TrackNumbers) (other : Option TrackNumbers) (made : TrackNumbers) → (if wide then Some track else other) ≡ Some made
@@ -32,7 +32,7 @@ one_of false track other made is = inr is
 none_made : (made : TrackNumbers) → None ≡ Some made → ⊥
 none_made made same = cc
 
-asked : (density : Density) (plan : Plan) (made : TrackNumbers) → track_at density plan ≡ Some made → AreAsked plan made
+asked : (density : Density) (plan : GapPlan) (made : TrackNumbers) → track_at density plan ≡ Some made → AreAsked plan made
 asked DoubleDensity plan made is =
     let first : TrackNumbers = indexed_track (mfm_before Indexed) (mfm_around Indexed) plan in
     let second : TrackNumbers = bare_track plan in
@@ -53,7 +53,7 @@ asked SingleDensity plan made is =
 asked_of : (rate : Rate) (sectors first : ℕ) (size : SectorSize) (made : TrackNumbers) → track_of rate sectors first size ≡ Some made
     → (made.sectors ≡ sectors) × (made.first_sector ≡ first) × (made.size ≡ size)
 asked_of rate sectors first size made is =
-    let plan : Plan = record { rate = rate; sectors = sectors; first_sector = first; size = size } in
+    let plan : GapPlan = record { rate = rate; sectors = sectors; first_sector = first; size = size } in
     asked (density_of rate) plan made
     (chosen-is (nat_le 1 sectors) (nat_le sectors 32) (nat_le (first + sectors) 256) (track_at (density_of rate) plan) made is)
 

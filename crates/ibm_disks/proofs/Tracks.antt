@@ -3,7 +3,7 @@ use Rattle.std.specs.Prelude.{◌≡◌, ℕ, ◌+◌, ◌≤◌, ◌<◌, List,
 use Rattle.std.proofs.Common.{ap, inl, inr, sym, subst, ◌∙◌, arith}
 use Rattle.std.proofs.lemmas.Bool.{leb-true}
 use Rattle.ibm_disks.specs.declared.disk.IbmDisk.{IbmDisk}
-use Rattle.ibm_disks.specs.declared.plan.Plan.{Plan}
+use Rattle.ibm_disks.specs.declared.gap_plan.GapPlan.{GapPlan}
 use Rattle.ibm_disks.specs.declared.rate.Rate.{Rate}
 use Rattle.ibm_disks.specs.declared.rate.Rate.TheVariants.{Double, High, HighAt360, Single, SingleAt360}
 use Rattle.ibm_disks.specs.declared.sector_size.SectorSize.{SectorSize}
@@ -14,7 +14,7 @@ use Rattle.ibm_disks.specs.lemmas.DiskLaws.{is-sound}
 use Rattle.ibm_disks.specs.lemmas.NumberLaws.{size-most}
 use Rattle.ibm_disks.specs.Disks.{HasTrack, IsDiskOf, WritesDisk, sound, track_of_disk}
 use Rattle.ibm_disks.specs.Numbers.{size_of}
-use Rattle.ibm_disks.specs.Plans.{FillsTrackOf, density_of, track_at, track_of}
+use Rattle.ibm_disks.specs.GapPlans.{FillsTrackOf, density_of, track_at, track_of}
 use Rattle.ibm_disks.specs.Words.{AreBehindRate, AreShort, EndsWith, HasNo, IsWordOf, density_word, rate_word}
 use Rattle.ibm_disks.proofs.Splits.{decimal-no, decimal-one, density-no, no-split, one-split, rate-no}
 
@@ -36,7 +36,7 @@ chosen-is true true false o x is = absurd (cc)
 pub few-sectors : (rate : Rate) (sectors first : ℕ) (size : SectorSize) (track : TrackNumbers) → track_of rate sectors first size ≡ Some track
     → (1 ≤ sectors) × (sectors ≤ 32) × (first + sectors ≤ 256)
 few-sectors rate sectors first size track is =
-    let plan : Plan = record { rate = rate; sectors = sectors; first_sector = first; size = size } in
+    let plan : GapPlan = record { rate = rate; sectors = sectors; first_sector = first; size = size } in
     let tests = chosen (nat_le 1 sectors) (nat_le sectors 32) (nat_le (first + sectors) 256) (track_at (density_of rate) plan) track is in
     (leb-true 1 sectors tests.0, leb-true sectors 32 tests.1, leb-true (first + sectors) 256 tests.2)
 

@@ -12,7 +12,7 @@ use Rattle.ibm_disks.specs.declared.track_numbers.TrackNumbers.{TrackNumbers}
 use Rattle.ibm_disks.specs.declared.word.DiskNumbers.{DiskNumbers}
 use Rattle.ibm_disks.specs.Named.{NamedDisk, named_as, named_disks}
 use Rattle.ibm_disks.specs.Numbers.{FM_AROUND, fm_before, mfm_around, mfm_before, size_of, used}
-use Rattle.ibm_disks.specs.Plans.{FillsTrackOf, density_of, track_bytes, track_of}
+use Rattle.ibm_disks.specs.GapPlans.{FillsTrackOf, density_of, track_bytes, track_of}
 use Rattle.ibm_disks.specs.Tracks.{pc_9}
 use Rattle.ibm_disks.specs.Words.{IsWordOf, numbers_word}
 

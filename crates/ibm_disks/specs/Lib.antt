@@ -1,6 +1,6 @@
 pub mod Numbers
 pub mod Tracks
-pub mod Plans
+pub mod GapPlans
 pub mod Words
 pub mod Named
 pub mod Disks

@@ -8,7 +8,7 @@ use Rattle.ibm_disks.specs.declared.rate.Rate.{Rate}
 use Rattle.ibm_disks.specs.declared.rate.Rate.TheVariants.{Double, HighAt360, Single}
 use Rattle.ibm_disks.specs.declared.track_numbers.TrackNumbers.{TrackNumbers}
 use Rattle.ibm_disks.specs.Numbers.{mfm_before, size_of}
-use Rattle.ibm_disks.specs.Plans.{track_bytes}
+use Rattle.ibm_disks.specs.GapPlans.{track_bytes}
 use Rattle.ibm_disks.specs.Tracks.{acorn, atari_10, cpc_data, cpc_system, pc_15, pc_8, pc_9}
 
 -- its word, what people call it with its cylinders, its heads where there are two, and the

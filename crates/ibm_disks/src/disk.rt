@@ -3,7 +3,7 @@ ghost use Rattle.ibm_disks.specs.Disks.{AllHaveDisks, HasTrack, IsDiskOf, IsWord
 ghost use Rattle.ibm_disks.specs.Disks.{WordsNameDisks, WritesDisk, are_few, cylinders_of, disk_label, disk_word};
 ghost use Rattle.ibm_disks.specs.Disks.{fill_at, heads_of, is_disk, rate_of, sound, track_of_disk};
 ghost use Rattle.ibm_disks.specs.Named.{same_disk};
-ghost use Rattle.ibm_disks.specs.Plans.{FillsTrackOf, density_of};
+ghost use Rattle.ibm_disks.specs.GapPlans.{FillsTrackOf, density_of};
 
 use crate::named::{disk_named, named_as};
 use crate::rate::{Density, Rate};

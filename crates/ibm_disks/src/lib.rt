@@ -3,8 +3,8 @@
 #![tactic(auto)]
 
 mod disk;
+mod gap_plan;
 mod named;
-mod plan;
 mod rate;
 mod sector_size;
 mod text;

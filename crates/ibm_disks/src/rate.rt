@@ -1,5 +1,5 @@
 ghost use Rattle.std.specs.Prelude.{◌≡◌};
-ghost use Rattle.ibm_disks.specs.Plans.{density_of, track_bytes as bytes_of_track};
+ghost use Rattle.ibm_disks.specs.GapPlans.{density_of, track_bytes as bytes_of_track};
 
 /// How fast a drive turns and writes.
 #[derive(Clone, Copy, Debug, PartialEq, Eq)]

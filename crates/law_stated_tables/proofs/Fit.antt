@@ -4,7 +4,7 @@ use Rattle.std.proofs.Common.{ap, arith, inl, inr, lit≤, subst}
 use Rattle.std.proofs.Math.Nat.{div-lt_iff_lt-mul, le-div_iff_mul-le, lt-mul-div-succ, min-le_left, mul_comm}
 use Rattle.std.proofs.lemmas.Bool.{le-leb, leb-false, leb-true}
 use Rattle.ibm_disks.specs.Numbers.{size_of}
-use Rattle.ibm_disks.specs.Plans.{bare_track, density_of, if_wide, indexed_track, track_at, track_bytes, track_of}
+use Rattle.ibm_disks.specs.GapPlans.{bare_track, density_of, if_wide, indexed_track, track_at, track_bytes, track_of}
 use Rattle.ibm_disks.specs.declared.rate.Density.{Density}
 use Rattle.ibm_disks.specs.declared.rate.Density.TheVariants.{Single as SingleDensity, Double as DoubleDensity}
 use Rattle.ibm_disks.specs.declared.rate.Rate.{Rate}

@@ -5,7 +5,7 @@ use Rattle.std.proofs.Math.Nat.{mod-eq_of_lt}
 use Rattle.std.proofs.lemmas.Bool.{ltb-true}
 use Rattle.ibm_disks.specs.Disks.{IsDiskOf, IsWordOfDisk, HasTrack, cylinders_of, heads_of, rate_of, sound, track_of_disk}
 use Rattle.ibm_disks.specs.Numbers.{size_of}
-use Rattle.ibm_disks.specs.Plans.{FillAt, FillsTrackOf, density_of, track_bytes}
+use Rattle.ibm_disks.specs.GapPlans.{FillAt, FillsTrackOf, density_of, track_bytes}
 use Rattle.ibm_disks.specs.Words.{EndsWith, IsWordOf}
 use Rattle.ibm_disks.specs.declared.disk.IbmDisk.{IbmDisk}
 use Rattle.ibm_disks.specs.declared.rate.Rate.{Rate}
@@ -13,7 +13,7 @@ use Rattle.ibm_disks.specs.declared.sector_size.SectorSize.{SectorSize}
 use Rattle.ibm_disks.specs.declared.track_numbers.TrackNumbers.{TrackNumbers}
 use Rattle.ibm_disks.specs.declared.word.DiskNumbers.{DiskNumbers}
 use Rattle.ibm_disks.specs.lemmas.DiskLaws.{is-sound}
-use Rattle.ibm_disks.specs.lemmas.PlanLaws.{filled}
+use Rattle.ibm_disks.specs.lemmas.GapPlanLaws.{filled}
 use Rattle.sector_images.specs.Formats.{cell_of}
 use Rattle.sector_images.specs.declared.format.Format.TheVariants.{Numbered}
 use Rattle.law_stated_tables.specs.Laws.{HasStatedTrack, IsStated, NumbersAreStated}

@@ -6,7 +6,7 @@ use Rattle.ibm_disks.specs.Disks.{IsWordOfDisk, WritesDisk, track_of_disk}
 use Rattle.ibm_disks.specs.Named.{NamedDisk, named_disks}
 use Rattle.ibm_disks.specs.Tracks.{pc_8}
 use Rattle.ibm_disks.specs.declared.rate.Rate.TheVariants.{Double}
-use Rattle.ibm_disks.specs.Plans.{density_of}
+use Rattle.ibm_disks.specs.GapPlans.{density_of}
 use Rattle.ibm_disks.specs.Words.{EndsWith, IsWordOf}
 use Rattle.ibm_disks.specs.declared.disk.IbmDisk.{IbmDisk}
 use Rattle.ibm_disks.specs.declared.word.DiskNumbers.{DiskNumbers}

@@ -11,7 +11,7 @@ use Rattle.disk_recordings.specs.Recordings.{numbered_by}
 use Rattle.disk_recordings.specs.contracts.meaning.DiskRecordingMeaning.TheImpl.{ghosts}
 use Rattle.ibm_disks.specs.Disks.{rate_of, track_of_disk}
 use Rattle.ibm_disks.specs.Numbers.{size_of}
-use Rattle.ibm_disks.specs.Plans.{density_of}
+use Rattle.ibm_disks.specs.GapPlans.{density_of}
 use Rattle.ibm_disks.specs.declared.rate.Density.{Density}
 use Rattle.ibm_disks.specs.declared.rate.Density.TheVariants.{Single as SingleDensity, Double as DoubleDensity}
 use Rattle.ibm_disks.specs.declared.sector_size.SectorSize.{SectorSize}

@@ -6,7 +6,7 @@ use Rattle.disk_zones.specs.declared.zones.Zone.{Zone}
 use Rattle.disk_zones.specs.Zones.{commodore_8050_zone, commodore_zone, macintosh_zone}
 use Rattle.disk_zones.specs.lemmas.EachZone.{by_commodore_8050_zone, by_commodore_zone, by_macintosh_zone}
 use Rattle.ibm_disks.specs.Disks.{rate_of, track_of_disk}
-use Rattle.ibm_disks.specs.Plans.{track_bytes}
+use Rattle.ibm_disks.specs.GapPlans.{track_bytes}
 use Rattle.ibm_disks.specs.declared.disk.IbmDisk.{IbmDisk}
 use Rattle.ibm_disks.specs.declared.rate.Rate.{Rate}
 use Rattle.ibm_disks.specs.declared.rate.Rate.TheVariants.{Double, High, HighAt360, Single, SingleAt360}

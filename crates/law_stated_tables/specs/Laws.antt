@@ -5,7 +5,7 @@ use Rattle.disk_zones.specs.declared.zones.Zone.{Zone}
 use Rattle.flux_base.specs.declared.track.TrackId.{TrackId}
 use Rattle.ibm_disks.specs.Disks.{rate_of, track_of_disk}
 use Rattle.ibm_disks.specs.Numbers.{size_of}
-use Rattle.ibm_disks.specs.Plans.{density_of}
+use Rattle.ibm_disks.specs.GapPlans.{density_of}
 use Rattle.ibm_disks.specs.declared.disk.IbmDisk.{IbmDisk}
 use Rattle.sector_images.specs.Formats.{IsWordOfFormat, row, slot, track_order, zone}
 use Rattle.sector_images.specs.Places.{comes_before}

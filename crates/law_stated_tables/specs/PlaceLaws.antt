@@ -4,7 +4,7 @@ use Rattle.flux_base.specs.declared.track.TrackId.{TrackId}
 use Rattle.disk_recordings.specs.Members.{place_in_ring}
 use Rattle.ibm_disks.specs.Disks.{rate_of, track_of_disk}
 use Rattle.ibm_disks.specs.Numbers.{size_of}
-use Rattle.ibm_disks.specs.Plans.{density_of}
+use Rattle.ibm_disks.specs.GapPlans.{density_of}
 use Rattle.ibm_disks.specs.declared.disk.IbmDisk.{IbmDisk}
 use Rattle.sector_images.specs.Formats.{IsWordOfFormat, row, zone}
 use Rattle.sector_images.specs.declared.format.Format.{Format}

@@ -4,7 +4,7 @@ use Rattle.std.proofs.Common.{ap, sym, ◌∙◌, arith, lit≤}
 use Rattle.std.proofs.Math.Nat.{mul-le-mul_left, suc-mul, zero-mul}
 use Rattle.ibm_disks.specs.Disks.{cylinders_of, heads_of, rate_of, track_of_disk}
 use Rattle.ibm_disks.specs.Numbers.{FillFmTrack, FillMfmTrack, fm_before, mfm_around, mfm_before, size_of}
-use Rattle.ibm_disks.specs.Plans.{FillAt, FillsTrackOf, density_of, track_bytes}
+use Rattle.ibm_disks.specs.GapPlans.{FillAt, FillsTrackOf, density_of, track_bytes}
 use Rattle.ibm_disks.specs.declared.disk.IbmDisk.{IbmDisk}
 use Rattle.ibm_disks.specs.declared.rate.Density.{Density}
 use Rattle.ibm_disks.specs.declared.rate.Density.TheVariants.{Single as SingleDensity, Double as DoubleDensity}

@@ -11,7 +11,7 @@ use Rattle.ibm_disks.specs.declared.track_numbers.TrackNumbers.{TrackNumbers}
 use Rattle.ibm_disks.specs.Disks.{AllHaveDisks, are_few, fill_at, fill_track, is_disk, pc_720}
 use Rattle.ibm_disks.specs.Disks.{sound}
 use Rattle.ibm_disks.specs.Numbers.{FM_AROUND, FillTrack, fm_before, mfm_around, mfm_before, used}
-use Rattle.ibm_disks.specs.Plans.{FillAt, FillsTrackOf, density_of, track_bytes}
+use Rattle.ibm_disks.specs.GapPlans.{FillAt, FillsTrackOf, density_of, track_bytes}
 
 both : (a b : Bool) → (a && b) ≡ true → (a ≡ true) × (b ≡ true)
 both true true is = (refl, refl)

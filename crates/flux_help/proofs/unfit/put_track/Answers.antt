@@ -1,5 +1,5 @@
 use Rattle.std.proofs.Common.{codes, decimal}
-use Rattle.ibm_disks.specs.Plans.{track_bytes}
+use Rattle.ibm_disks.specs.GapPlans.{track_bytes}
 use Rattle.flux_help.proofs.Joined.{joined_behind}
 use Rattle.flux_help.proofs.unfit.put_track.Goals as goal
 

@@ -5,7 +5,7 @@ use Rattle.std.proofs.Common.{arith, lit≤, refl}
 use Rattle.std.proofs.Math.Nat.{div-mul-le_self, min-le_left, mul-add, mul-le-mul_left, mul_comm}
 use Rattle.std.proofs.Math.Nat.{mul_left_comm, zero-div}
 use Rattle.std.proofs.lemmas.Bool.{leb-true}
-use Rattle.ibm_disks.specs.declared.plan.Plan.{Plan}
+use Rattle.ibm_disks.specs.declared.gap_plan.GapPlan.{GapPlan}
 use Rattle.ibm_disks.specs.declared.rate.Density.{Density}
 use Rattle.ibm_disks.specs.declared.rate.Density.TheVariants.{Single as SingleDensity}
 use Rattle.ibm_disks.specs.declared.rate.Density.TheVariants.{Double as DoubleDensity}
@@ -17,8 +17,8 @@ use Rattle.ibm_disks.specs.declared.track_numbers.LeadIn.TheVariants.{Indexed, B
 use Rattle.ibm_disks.specs.declared.track_numbers.TrackNumbers.{TrackNumbers}
 use Rattle.ibm_disks.specs.Numbers.{FM_AROUND, FillTrack, fm_before, mfm_around, mfm_before}
 use Rattle.ibm_disks.specs.Numbers.{size_of}
-use Rattle.ibm_disks.specs.Plans.{FillAt, bare_track, if_wide, indexed_track, left, narrow_gap}
-use Rattle.ibm_disks.specs.Plans.{track_at, track_bytes, track_with, wide_gap}
+use Rattle.ibm_disks.specs.GapPlans.{FillAt, bare_track, if_wide, indexed_track, left, narrow_gap}
+use Rattle.ibm_disks.specs.GapPlans.{track_at, track_bytes, track_with, wide_gap}
 
 -- the gaps leave a byte at least
 wide-leaves : (before own bytes sectors : ℕ)
@@ -80,7 +80,7 @@ short HighAt360 = lit≤ tt
 short Single = lit≤ tt
 short SingleAt360 = lit≤ tt
 
-module _ (plan : Plan) (some : 1 ≤ plan.sectors)
+module _ (plan : GapPlan) (some : 1 ≤ plan.sectors)
     (few : plan.first_sector + plan.sectors ≤ 256) where
   -- a track of the plan whose sectors and gaps leave a byte
   fills : (before around gap : ℕ) (lead_in : LeadIn)

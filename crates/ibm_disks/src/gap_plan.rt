@@ -1,9 +1,9 @@
 //! The track that a disk's numbers make, where they say nothing of its gaps.
 
 ghost use Rattle.std.specs.Prelude.{◌≡◌, IfSome, ◌≤◌, ◌<◌};
-ghost use Rattle.ibm_disks.specs.Plans.{FillsTrackOf, IsCountOfSectors, double_track, left as left_by};
-ghost use Rattle.ibm_disks.specs.Plans.{narrow_gap as narrow_gap_of, single_track, track_of, track_with};
-ghost use Rattle.ibm_disks.specs.Plans.{wide_gap as wide_gap_of};
+ghost use Rattle.ibm_disks.specs.GapPlans.{FillsTrackOf, IsCountOfSectors, double_track, left as left_by};
+ghost use Rattle.ibm_disks.specs.GapPlans.{narrow_gap as narrow_gap_of, single_track, track_of, track_with};
+ghost use Rattle.ibm_disks.specs.GapPlans.{wide_gap as wide_gap_of};
 
 use crate::rate::{Density, Rate};
 use crate::sector_size::SectorSize;
@@ -17,7 +17,7 @@ const WIDEST_GAP: u32 = 80;
 
 /// What is asked of a track.
 #[derive(Clone, Copy, Debug)]
-pub(crate) struct Plan {
+pub(crate) struct GapPlan {
     pub rate: Rate,
     /// 1 to 32.
     pub sectors: u8,
@@ -48,7 +48,7 @@ impl TrackNumbers {
         if u16::from(first_sector) + u16::from(sectors) > 256 {
             return None;
         }
-        let plan = Plan {
+        let plan = GapPlan {
             rate,
             sectors,
             first_sector,
@@ -61,7 +61,7 @@ impl TrackNumbers {
     }
 }
 
-impl Plan {
+impl GapPlan {
     /// In double density: as the PC's, or else with less before each header.
     fn double_track(self) -> Option<TrackNumbers>
         requires { IsCountOfSectors self.sectors }

@@ -3,7 +3,7 @@
 -- tighter one, as the Atari ST's of 11 sectors.
 use Rattle.std.specs.Prelude.{◌≡◌, ℕ, ◌+◌, ◌-◌, ◌*◌, ◌/◌, ◌≤◌, min, ◌&&◌, nat_le, if◌then◌else◌}
 use Rattle.std.specs.Prelude.{Option, Some, None}
-use Rattle.ibm_disks.specs.declared.plan.Plan.{Plan}
+use Rattle.ibm_disks.specs.declared.gap_plan.GapPlan.{GapPlan}
 use Rattle.ibm_disks.specs.declared.rate.Density.{Density}
 use Rattle.ibm_disks.specs.declared.rate.Density.TheVariants.{Single as SingleDensity}
 use Rattle.ibm_disks.specs.declared.rate.Density.TheVariants.{Double as DoubleDensity}
@@ -34,7 +34,7 @@ density_of Single = SingleDensity
 density_of SingleAt360 = SingleDensity
 
 -- what the sectors leave of a track
-abbrev pub left : (before around : ℕ) → Plan → ℕ
+abbrev pub left : (before around : ℕ) → GapPlan → ℕ
 left before around plan =
     track_bytes plan.rate - (before + plan.sectors * (around + size_of plan.size))
 
@@ -47,7 +47,7 @@ abbrev pub narrow_gap : (rest sectors : ℕ) → ℕ
 narrow_gap rest sectors = min (rest / (sectors + 1)) 80
 
 -- a track with this gap
-abbrev pub track_with : Plan → LeadIn → ℕ → TrackNumbers
+abbrev pub track_with : GapPlan → LeadIn → ℕ → TrackNumbers
 track_with plan lead_in gap = record {
   sectors = plan.sectors;
   first_sector = plan.first_sector;
@@ -57,11 +57,11 @@ track_with plan lead_in gap = record {
   bytes = track_bytes plan.rate;
 }
 
-abbrev pub indexed_track : (before around : ℕ) → Plan → TrackNumbers
+abbrev pub indexed_track : (before around : ℕ) → GapPlan → TrackNumbers
 indexed_track before around plan =
     track_with plan Indexed (wide_gap (left before around plan) plan.sectors)
 
-abbrev pub bare_track : Plan → TrackNumbers
+abbrev pub bare_track : GapPlan → TrackNumbers
 bare_track plan =
     track_with plan Bare (narrow_gap (left (mfm_before Bare) (mfm_around Bare) plan) plan.sectors)
 
@@ -69,14 +69,14 @@ bare_track plan =
 abbrev pub if_wide : (least : ℕ) → TrackNumbers → Option TrackNumbers → Option TrackNumbers
 if_wide least track other = if nat_le least track.sector_gap then Some track else other
 
-abbrev pub double_track : Plan → Option TrackNumbers
+abbrev pub double_track : GapPlan → Option TrackNumbers
 double_track plan = if_wide 10 (indexed_track (mfm_before Indexed) (mfm_around Indexed) plan)
     (if_wide 1 (bare_track plan) None)
 
-abbrev pub single_track : Plan → Option TrackNumbers
+abbrev pub single_track : GapPlan → Option TrackNumbers
 single_track plan = if_wide 4 (indexed_track (fm_before Indexed) FM_AROUND plan) None
 
-abbrev pub track_at : Density → Plan → Option TrackNumbers
+abbrev pub track_at : Density → GapPlan → Option TrackNumbers
 track_at DoubleDensity plan = double_track plan
 track_at SingleDensity plan = single_track plan
 
