@@ -7,7 +7,7 @@ use Rattle.flux_base.specs.declared.status.Status.{Status}
 use Rattle.flux_base.specs.declared.status.Status.TheVariants.{AllGood, NotAllGood, Refused, Usage, ReadFault, ImageFault, NotesFault, Memory, ShelfFault}
 use Rattle.flux_base.specs.lemmas.Counting.{Counts-none}
 use Rattle.flux_cli.proofs.Often.{many-none}
-use Rattle.flux_cli.specs.Runs.{Does, Says}
+use Rattle.flux_cli.specs.Runs.{Does}
 use Rattle.flux_cli.specs.Work.{Work}
 use Rattle.flux_cli.specs.World.{Outside}
 use Rattle.flux_cli.specs.Blamed.{CountsOfRun, CountsOfShelf, CountsOnShelf, all_counts, shelf_blame, source_blame}
@@ -92,5 +92,6 @@ module _ {source shelf shelf' image image' notes notes' : FaultCounts} where
   run-of-shelf dumps ShelfFault other c = record { source = Counts-none source; shelf = c.shelf; image = c.image; notes = c.notes }
 
 -- over the source no fault is the shelf's
-pub no-shelf : {S W N : Type 0} {work : Work} {status : Status} {before after : Outside S W N} → Does work status before after → status ≡ ShelfFault → ⊥
-no-shelf {work = work} {before = before} {after = after} did same = subst (λ (s : Status). Says work s before after) same did.says
+pub no-shelf : {A V W N : Type 0} {work : Work V} {status : Status} {before after : Outside A V W N} → Does work status before after → (work.ends ShelfFault → ⊥)
+    → status ≡ ShelfFault → ⊥
+no-shelf {work = work} did never same = never (subst work.ends same did.answer)

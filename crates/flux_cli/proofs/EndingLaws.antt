@@ -25,6 +25,7 @@ use Rattle.flux_cli.specs.Blamed.{CountsOnShelf, FailsOften, source_blame}
 use Rattle.flux_cli.specs.Endings.{Ending, EndsBy, EndsDumps, ending_blame, ends, file_ending, image_ending, plan_ending, refusal, refuses, written_status}
 use Rattle.flux_cli.specs.Runs.{growth}
 use Rattle.flux_cli.specs.Work.{Got, GotPart}
+use Rattle.flux_cli.specs.ShelfWork.{ends_over_shelf}
 
 module _ {N : Type 0} (P : Status → Moment N → Type 0) where
   -- the command ended with a status
@@ -159,12 +160,8 @@ IsOverSource Memory = ⊥
 IsOverSource ShelfFault = ⊥
 IsOverSource _ = Unit {0}
 
--- what one over the shelf ends with
-abbrev pub IsOverShelf : Status → Type 0
-IsOverShelf ReadFault = ⊥
-IsOverShelf _ = Unit {0}
-
-done-over-shelf : (status : Status) → IsDone status → IsOverShelf status
+-- and what one over the shelf does
+done-over-shelf : (status : Status) → IsDone status → ends_over_shelf status
 done-over-shelf AllGood done = tt
 done-over-shelf NotAllGood done = tt
 done-over-shelf ShelfFault done = tt
@@ -192,12 +189,12 @@ module _ {N : Type 0} (before after : Moment N) (status : Status) where
       ended-by-line _ IsOverSource tt tt is
 
   pub shelf-over-shelf : {A : Type 0} (told : Option (List File)) (dumps : List (List ℕ)) (by : A → Status) → ((done : A) → IsDone (by done)) → (answer : Result A (Stopped NoFiles))
-      → EndsDumps told dumps by answer status before after → IsOverShelf status
-  shelf-over-shelf told dumps by done_is (Ok done) is = ends-with (λ (s : Status) (n : Moment N). IsOverShelf s) _ status before after (done-over-shelf (by done) (done_is done)) is
-  shelf-over-shelf told dumps by done_is (Err Unwritten) is = ends-with (λ (s : Status) (n : Moment N). IsOverShelf s) ImageFault status before after tt is.ends
-  shelf-over-shelf told dumps by done_is (Err Untold) is = ends-with (λ (s : Status) (n : Moment N). IsOverShelf s) NotesFault status before after tt is.ends
-  shelf-over-shelf told dumps by done_is (Err Unread) is = ends-with (λ (s : Status) (n : Moment N). IsOverShelf s) ShelfFault status before after tt is.ends
-  shelf-over-shelf told dumps by done_is (Err (RefusedInput empty)) is = ended-by-line _ IsOverShelf tt tt is.ends
+      → EndsDumps told dumps by answer status before after → ends_over_shelf status
+  shelf-over-shelf told dumps by done_is (Ok done) is = ends-with (λ (s : Status) (n : Moment N). ends_over_shelf s) _ status before after (done-over-shelf (by done) (done_is done)) is
+  shelf-over-shelf told dumps by done_is (Err Unwritten) is = ends-with (λ (s : Status) (n : Moment N). ends_over_shelf s) ImageFault status before after tt is.ends
+  shelf-over-shelf told dumps by done_is (Err Untold) is = ends-with (λ (s : Status) (n : Moment N). ends_over_shelf s) NotesFault status before after tt is.ends
+  shelf-over-shelf told dumps by done_is (Err Unread) is = ends-with (λ (s : Status) (n : Moment N). ends_over_shelf s) ShelfFault status before after tt is.ends
+  shelf-over-shelf told dumps by done_is (Err (RefusedInput empty)) is = ended-by-line _ ends_over_shelf tt tt is.ends
 
 -- what is written to the image alone
 pub written-blame : {source image image' notes : FaultCounts} (answer : Result (Unit {0}) Failed) → Counts (is_err answer) image image'

@@ -5,6 +5,7 @@ use Rattle.std.proofs.lemmas.Bool.{cases_lt, lt-ltb}
 use Rattle.std.proofs.lemmas.List.{drop_all}
 use Rattle.std.proofs.Math.Seq.{drop-append_seam}
 use Rattle.std.specs.Io.KnownBytes.{Appends, IsAtEnd, Keeps}
+use Rattle.flux_base.specs.declared.status.Status.{Status}
 use Rattle.flux_base.specs.declared.status.Status.TheVariants.{AllGood, NotAllGood, Refused as RefusedStatus, ReadFault as ReadFaultStatus, ImageFault as ImageFaultStatus, NotesFault as NotesFaultStatus}
 use Rattle.flux_engine.specs.Disks.{report_over}
 use Rattle.flux_engine.specs.Needed.{ReadsUpTo, ReadsWhereOpen}
@@ -22,23 +23,24 @@ use Rattle.sector_report.specs.declared.totals.Totals.{Totals}
 use Rattle.flux_cli.specs.PlanWork.{status_by, status_of}
 use Rattle.flux_words.specs.G64Disks.{format_of}
 use Rattle.flux_cli.specs.G64Work.{CutInFileReport, IsWholeInput, file_refusal, from_g64_leaves, from_g64_outcome, from_g64_work}
-use Rattle.flux_cli.specs.Runs.{Does, Finished, IsCut, NoCountFell, WasReadWhereNeeded, growth}
+use Rattle.flux_cli.specs.Runs.{Does, Finished, IsCut, growth}
 use Rattle.flux_cli.specs.Work.{Got}
 use Rattle.flux_cli.specs.World.{Outside}
 use Rattle.flux_words.specs.declared.g64_disk.G64Disk.{G64Disk}
 use Rattle.flux_cli.proofs.Inputs.{rest}
+use Rattle.flux_cli.specs.BytesWork.{of_bytes, WasReadWhereNeeded}
 
 leaves-if : (x later : List ℕ) (b : Bool) → later ≡ [] → from_g64_leaves (if b then AllGood else NotAllGood) x later
 leaves-if x later true none = none
 leaves-if x later false none = none
 
 -- a file that was read to its end
-pub file-does : {S W N : Type 0} (disk : G64Disk) (before after : Outside S W N) (b : Bool)
-    → Finished (from_g64_work (format_of disk)) (if b then AllGood else NotAllGood) before after → NoCountFell before after
-    → WasReadWhereNeeded (from_g64_work (format_of disk)) before after
-    → Does (from_g64_work (format_of disk)) (if b then AllGood else NotAllGood) before after
-file-does disk before after true finished counts needed = record { answer = tt; says = finished; counts = counts; needed = needed }
-file-does disk before after false finished counts needed = record { answer = tt; says = finished; counts = counts; needed = needed }
+pub file-does : {S W N : Type 0} (disk : G64Disk) (before after : Outside S SourceMoment W N) (b : Bool)
+    → Finished (of_bytes (from_g64_work (format_of disk))) (if b then AllGood else NotAllGood) before after
+    → WasReadWhereNeeded (from_g64_work (format_of disk)) before.input.seen after.input.seen
+    → Does (of_bytes (from_g64_work (format_of disk))) (if b then AllGood else NotAllGood) before after
+file-does disk before after true finished needed = record { answer = tt; says = finished; keeps = needed }
+file-does disk before after false finished needed = record { answer = tt; says = finished; keeps = needed }
 
 -- the reads of a file
 pub file-reads : {old new : SourceMoment} → ReadsUpTo 4194305 old new → ReadsWhereOpen (λ x. length x < MOST_BYTES + 1) old new
@@ -84,9 +86,9 @@ refused-whole format taken later fault left' file ended is =
           }
     ]
 
-module _ {S W N : Type 0} (format : Format) (before after : Outside S W N) where
+module _ {S W N : Type 0} (format : Format) (before after : Outside S SourceMoment W N) where
   -- a file without a fault, and no more
-  whole-is : (taken later : List ℕ) → IsWholeFile format taken after.source.bytes → (IsAtEnd after.source.bytes → later ≡ [])
+  whole-is : (taken later : List ℕ) → IsWholeFile format taken after.input.seen.left → (IsAtEnd after.input.seen.left → later ≡ [])
       → (taken ≡ taken ++ later) × IsWholeInput format (taken ++ later) later
   whole-is taken later whole ended =
       let none = ended whole.ended in
@@ -95,30 +97,33 @@ module _ {S W N : Type 0} (format : Format) (before after : Outside S W N) where
 
   -- the image and the report
   pub file-finish : (totals : Totals)
-      → ReadsFile format before.source.bytes after.source.bytes before.image.bytes after.image.bytes before.notes.bytes after.notes.bytes (Ok totals)
-      → Finished (from_g64_work format) (status_of totals) before after
+      → ReadsFile format before.input.seen.left after.input.seen.left before.image.bytes after.image.bytes before.notes.bytes after.notes.bytes (Ok totals)
+      → Finished (of_bytes (from_g64_work format)) (status_of totals) before after
   file-finish totals f =
-      let r = rest before.source after.source f.taken f.consumed in
+      let r = rest before.input.seen after.input.seen f.taken f.consumed in
       let d = f.says.0 in
       let wrote = f.says.2 in
       let is = whole-is f.taken r.later f.says.1 r.ended in
-      let none : d.stop ≡ None = ap (λ o. o.stop) wrote.disk.is ∙ f.says.1.no_fault in record {
-        taken = f.taken;
-        later = r.later;
-        input = r.input;
+      let none : d.stop ≡ None = ap (λ o. o.stop) wrote.disk.is ∙ f.says.1.no_fault in
+      let same : status_of totals ≡ status_by d.totals d.stop = ap status_of f.says.3 ∙ ap (status_by d.totals) (sym none) in record {
         outcome = from_g64_outcome d;
-        gives = (d, subst (λ x. IsFileDisk format x d) is.0 wrote.disk, refl);
-        status_is = ap status_of f.says.3 ∙ ap (status_by d.totals) (sym none);
+        gives = record {
+          taken = f.taken;
+          later = r.later;
+          input = r.input;
+          gives = (d, subst (λ x. IsFileDisk format x d) is.0 wrote.disk, refl);
+          leaves = subst (λ (s : Status). from_g64_leaves s (f.taken ++ r.later) r.later) same (leaves-if (f.taken ++ r.later) r.later (totals.good == totals.sectors) is.1.ended);
+        };
+        status_is = same;
         image_got = wrote.image_grew;
         notes_got = subst (Got (growth before.notes after.notes)) (sym (ap (λ fault. d.notes ++ file_refusal fault) none ∙ append-nil d.notes)) wrote.notes_grew;
-        leaves = leaves-if (f.taken ++ r.later) r.later (totals.good == totals.sectors) is.1.ended;
       }
 
   -- the source failed
-  pub file-cut-read : ReadsFile format before.source.bytes after.source.bytes before.image.bytes after.image.bytes before.notes.bytes after.notes.bytes (Err ReadFault)
-      → IsCut (from_g64_work format) ReadFaultStatus before after
+  pub file-cut-read : ReadsFile format before.input.seen.left after.input.seen.left before.image.bytes after.image.bytes before.notes.bytes after.notes.bytes (Err ReadFault)
+      → IsCut (of_bytes (from_g64_work format)) ReadFaultStatus before after
   file-cut-read f =
-      let r = rest before.source after.source f.taken f.consumed in record {
+      let r = rest before.input.seen after.input.seen f.taken f.consumed in record {
         taken = f.taken;
         later = r.later;
         input = r.input;
@@ -130,10 +135,10 @@ module _ {S W N : Type 0} (format : Format) (before after : Outside S W N) where
       }
 
   -- the sink of the image failed
-  pub file-cut-image : ReadsFile format before.source.bytes after.source.bytes before.image.bytes after.image.bytes before.notes.bytes after.notes.bytes (Err ImageFault)
-      → IsCut (from_g64_work format) ImageFaultStatus before after
+  pub file-cut-image : ReadsFile format before.input.seen.left after.input.seen.left before.image.bytes after.image.bytes before.notes.bytes after.notes.bytes (Err ImageFault)
+      → IsCut (of_bytes (from_g64_work format)) ImageFaultStatus before after
   file-cut-image f =
-      let r = rest before.source after.source f.taken f.consumed in
+      let r = rest before.input.seen after.input.seen f.taken f.consumed in
       let is = whole-is f.taken r.later f.says.0 r.ended in record {
         taken = f.taken;
         later = r.later;
@@ -142,10 +147,10 @@ module _ {S W N : Type 0} (format : Format) (before after : Outside S W N) where
       }
 
   -- the sink of the notes failed in the report
-  pub file-cut-notes : ReadsFile format before.source.bytes after.source.bytes before.image.bytes after.image.bytes before.notes.bytes after.notes.bytes (Err NotesFault)
-      → IsCut (from_g64_work format) NotesFaultStatus before after
+  pub file-cut-notes : ReadsFile format before.input.seen.left after.input.seen.left before.image.bytes after.image.bytes before.notes.bytes after.notes.bytes (Err NotesFault)
+      → IsCut (of_bytes (from_g64_work format)) NotesFaultStatus before after
   file-cut-notes f =
-      let r = rest before.source after.source f.taken f.consumed in
+      let r = rest before.input.seen after.input.seen f.taken f.consumed in
       let is = whole-is f.taken r.later f.says.0 r.ended in record {
         taken = f.taken;
         later = r.later;
@@ -154,7 +159,7 @@ module _ {S W N : Type 0} (format : Format) (before after : Outside S W N) where
       }
 
   module _ (mid : Option (List ℕ)) (fault : G64Fault)
-      (f : ReadsFile format before.source.bytes after.source.bytes before.image.bytes after.image.bytes before.notes.bytes mid (Err (Refused fault))) where
+      (f : ReadsFile format before.input.seen.left after.input.seen.left before.image.bytes after.image.bytes before.notes.bytes mid (Err (Refused fault))) where
     none_read : FileDisk
     none_read = report_over [] (Some fault)
 
@@ -168,28 +173,30 @@ module _ {S W N : Type 0} (format : Format) (before after : Outside S W N) where
     }
 
     -- the line that says why
-    pub file-refuse : Appends mid after.notes.bytes (g64_text fault) → Finished (from_g64_work format) RefusedStatus before after
+    pub file-refuse : Appends mid after.notes.bytes (g64_text fault) → Finished (of_bytes (from_g64_work format)) RefusedStatus before after
     unfolding none_read
     file-refuse line =
-        let r = rest before.source after.source f.taken f.consumed in
-        let w = refused-whole format f.taken r.later fault after.source.bytes f.says.0 r.ended f.says.1 in record {
-          taken = f.taken;
-          later = r.later;
-          input = r.input;
+        let r = rest before.input.seen after.input.seen f.taken f.consumed in
+        let w = refused-whole format f.taken r.later fault after.input.seen.left f.says.0 r.ended f.says.1 in record {
           outcome = from_g64_outcome none_read;
-          gives = (none_read, is-none (f.taken ++ r.later) w.refused, refl);
+          gives = record {
+            taken = f.taken;
+            later = r.later;
+            input = r.input;
+            gives = (none_read, is-none (f.taken ++ r.later) w.refused, refl);
+            leaves = w.left;
+          };
           status_is = refl;
           image_got = got-nothing before.image.bytes after.image.bytes f.says.2;
           notes_got = subst (λ old. Appends old after.notes.bytes (g64_text fault)) f.says.3 line;
-          leaves = w.left;
         }
 
     -- a part of it
     pub file-cut-refusal : (n : ℕ) → n < length (g64_text fault) → Appends mid after.notes.bytes (take n (g64_text fault))
-        → IsCut (from_g64_work format) NotesFaultStatus before after
+        → IsCut (of_bytes (from_g64_work format)) NotesFaultStatus before after
     file-cut-refusal n within part =
-        let r = rest before.source after.source f.taken f.consumed in
-        let w = refused-whole format f.taken r.later fault after.source.bytes f.says.0 r.ended f.says.1 in record {
+        let r = rest before.input.seen after.input.seen f.taken f.consumed in
+        let w = refused-whole format f.taken r.later fault after.input.seen.left f.says.0 r.ended f.says.1 in record {
           taken = f.taken;
           later = r.later;
           input = r.input;

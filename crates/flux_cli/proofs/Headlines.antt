@@ -1,9 +1,8 @@
--- From what a run did to what is known of its outcome.
+-- From what the row of a command over bytes says of an outcome to what is known of it.
 use Rattle.std.specs.Prelude.{◌≡◌, ◌==◌, ◌≤◌, ℕ, ◌++◌, Bool, true, false, List, [], if◌then◌else◌, Option, Some, None, refl}
 use Rattle.std.proofs.Common.{ap, arith, inl, inr, sym, subst, ◌∙◌, append-nil}
 use Rattle.std.proofs.lemmas.Bool.{eq-eqb}
-use Rattle.flux_base.specs.declared.status.Status.{Status}
-use Rattle.flux_base.specs.declared.status.Status.TheVariants.{AllGood, NotAllGood, Refused, Usage, ReadFault, ImageFault, NotesFault, Memory, ShelfFault}
+use Rattle.flux_base.specs.declared.status.Status.TheVariants.{AllGood, NotAllGood}
 use Rattle.flux_engine.specs.declared.fault.RefusedCapture.{RefusedCapture}
 use Rattle.flux_engine.specs.Plans.{IsPlanned, Planned, streams_in}
 use Rattle.flux_engine.specs.Tracks.{part_by}
@@ -20,25 +19,19 @@ use Rattle.law_captured_plans.specs.Said.{AreRightLines, GoodLinesAreRight, Inpu
 use Rattle.sector_images.specs.declared.format.Format.{Format}
 use Rattle.sector_report.specs.declared.totals.Totals.{Totals}
 use Rattle.turn_merge.specs.declared.verdict.Verdict.TheVariants.{Good}
-use Rattle.flux_words.specs.Asked.{Asked, the_turns, some_streams, a_folder, some_dumps, a_sector, an_identity, written_streams, a_trial, a_g64_file, an_image_of_g64, a_page}
-use Rattle.flux_words.specs.CommandWords.{AreWordsOf, AskOnce}
+use Rattle.flux_words.specs.CommandWords.{AskOnce}
 use Rattle.flux_words.specs.G64Disks.{format_of}
-use Rattle.flux_cli.specs.AskedDisks.{IsFew, Keeps}
+use Rattle.flux_cli.specs.AskedDisks.{IsFew}
 use Rattle.flux_cli.specs.G64Work.{file_refusal, from_g64_outcome}
-use Rattle.flux_cli.specs.Headlines.{AreRightInFile, Gave, GaveOrCut, IsExpected, IsOfFile, IsOfPlanned, OfFile, OfShown, OfStreams, OfTrial, RunsAsExpected, WasRead}
-use Rattle.flux_cli.specs.PlanWork.{planned_outcome, planned_refusal, planned_work, status_by, status_of, to_notes}
-use Rattle.flux_cli.specs.Runs.{Finished, Says}
-use Rattle.flux_cli.specs.ShelfRuns.{DoesRow, Ran}
-use Rattle.flux_cli.specs.Work.{Outcome, Work}
-use Rattle.flux_cli.specs.Works.{GivesOf, IsWithBytes, Row, plan_of, row_for, row_of, with_bytes, with_files, with_folder}
-use Rattle.flux_cli.specs.World.{Outside, World}
+use Rattle.flux_cli.specs.Headlines.{AreRightInFile, IsOfFile, IsOfPlanned, OfFile, OfStreams, OfTrial, WasRead}
+use Rattle.flux_cli.specs.PlanWork.{planned_outcome, planned_refusal, status_by, status_of, to_notes}
+use Rattle.flux_cli.specs.Work.{Outcome}
+use Rattle.flux_cli.specs.Works.{plan_of}
 use Rattle.flux_words.specs.declared.commands.Way.{Way}
 use Rattle.flux_words.specs.declared.commands.Way.TheVariants.{Once, Often, ByBothClocks}
 use Rattle.flux_words.specs.declared.commands.Output.{Output}
-use Rattle.flux_words.specs.declared.commands.Output.TheVariants.{ImageAndReport, ReportAlone, Picture}
 use Rattle.flux_words.specs.declared.g64_disk.G64Disk.{G64Disk}
 use Rattle.flux_words.specs.declared.g64_disk.G64Disk.TheVariants.{Tracks35, Tracks40}
-use Rattle.flux_cli.proofs.AskedWords.{asked_is, asked_keeps}
 
 -- what the crates below promise
 pub record Laws : Type 0 where
@@ -115,7 +108,7 @@ way_asked (Often count) few = record { some = few.some; most = few.most; strict 
 way_asked ByBothClocks few = record { some = omega arith; most = omega arith; strict = refl; tells = omega arith }
 
 module _ (laws : Laws) (x : List ℕ) (o : Outcome) where
-  of_streams : (plan : Plan) (output : Output) (format : Format) → IsAsked plan → (d : Planned) → IsPlanned plan (part_by plan.naming) format (streams_in plan x) d
+  pub of_streams : (plan : Plan) (output : Output) (format : Format) → IsAsked plan → (d : Planned) → IsPlanned plan (part_by plan.naming) format (streams_in plan x) d
       → o ≡ planned_outcome output plan.naming format d → OfStreams plan output format x o
   of_streams plan output format asked d read is = record {
     told = λ was.
@@ -134,7 +127,7 @@ module _ (laws : Laws) (x : List ℕ) (o : Outcome) where
     one_piece = λ image image_is set. laws.one_piece plan format image x image_is set;
   }
 
-  of_g64 : (disk : G64Disk) (d : FileDisk) → IsFileDisk (format_of disk) x d → o ≡ from_g64_outcome d → OfFile (format_of disk) x o
+  pub of_g64 : (disk : G64Disk) (d : FileDisk) → IsFileDisk (format_of disk) x d → o ≡ from_g64_outcome d → OfFile (format_of disk) x o
   of_g64 disk d file is = record {
     told = λ read.
         let none : d.stop ≡ None = none_stopped d.totals d.stop (subst (λ (p : Outcome). WasRead p.status) is read) in
@@ -147,66 +140,6 @@ module _ (laws : Laws) (x : List ℕ) (o : Outcome) where
         (file_status_is d o is back.no_fault ∙ good_by d.totals back.all_good, of_file d o is back.no_fault _ back);
   }
 
-  of_trial : (format : Format) (seed : ℕ) (line : List ℕ) → IsTrialLine format seed line → o ≡ record { status = AllGood; image = line; notes = [] } → OfTrial format seed o
+  pub of_trial : (format : Format) (seed : ℕ) (line : List ℕ) → IsTrialLine format seed line → o ≡ record { status = AllGood; image = line; notes = [] } → OfTrial format seed o
   of_trial format seed line trial is no_hole =
       is ∙ ap (λ (text : List ℕ). record { status = AllGood; image = text; notes = [] }) (laws.trials format seed line no_hole trial)
-
-  -- what a command's row says is as expected
-  pub expected : (asked : Asked) → Keeps asked → GivesOf (row_of asked) x o → IsExpected asked x o
-  expected (some_streams asked) keeps gives = shown asked.output gives
-    where
-      shown : (output : Output) → (planned_work (plan_of asked.way) output asked.format).gives x o → OfShown (plan_of asked.way) output asked.format x o
-      shown ImageAndReport given = of_streams (plan_of asked.way) ImageAndReport asked.format (way_asked asked.way keeps) given.0 given.1 given.2
-      shown ReportAlone given = of_streams (plan_of asked.way) ReportAlone asked.format (way_asked asked.way keeps) given.0 given.1 given.2
-      shown Picture given = tt
-  expected (a_trial format seed) keeps gives = of_trial format seed gives.0 gives.1 gives.2
-  expected (an_image_of_g64 disk) keeps gives = of_g64 disk gives.0 gives.1 gives.2
-  expected the_turns keeps gives = tt
-  expected (a_folder format folder) keeps gives = tt
-  expected (some_dumps asked) keeps gives = tt
-  expected (a_sector asked) keeps gives = tt
-  expected (an_identity dump) keeps gives = tt
-  expected (written_streams format) keeps gives = tt
-  expected (a_g64_file disk) keeps gives = tt
-  expected (a_page page) keeps gives = tt
-
--- what holds of each outcome of some work over an input, holds of what a run gave
-module _ {S W N : Type 0} (before after : Outside S W N) (work : Work) (x : List ℕ) (told : before.source.bytes ≡ Some x) (Holds : Outcome → Type 0)
-    (holds : (o : Outcome) → work.gives x o → Holds o) where
-  gave : (status : Status) → Finished work status before after → Gave Holds status before after
-  gave status done =
-      let whole : x ≡ done.taken ++ done.later = (done.input x told).0 in
-      record {
-        outcome = done.outcome;
-        status_is = done.status_is;
-        image_got = done.image_got;
-        notes_got = done.notes_got;
-        holds = holds done.outcome (subst (λ (y : List ℕ). work.gives y done.outcome) (sym whole) done.gives);
-      }
-
-  pub gave_or_cut : (status : Status) → Says work status before after → GaveOrCut Holds status before after
-  gave_or_cut AllGood says = gave AllGood says
-  gave_or_cut NotAllGood says = gave NotAllGood says
-  gave_or_cut Refused says = gave Refused says
-  gave_or_cut Usage says = gave Usage says
-  gave_or_cut ReadFault says = says.1
-  gave_or_cut ImageFault says = says.1
-  gave_or_cut NotesFault says = says.1
-  gave_or_cut Memory says = says
-  gave_or_cut ShelfFault says = absurd says
-
-module _ (laws : Laws) {S W N H : Type 0} (words : List (List ℕ)) (status : Status) (before after : World S W N H) (ran : Ran words status before after) where
-  -- what was done for what the words ask
-  pub did_of : (asked : Asked) → AreWordsOf asked words → DoesRow (row_of asked) status before after
-  did_of asked are =
-      subst (λ (a : Option Asked). DoesRow (row_for words a) status before after) (asked_is laws.once words asked ran.asked are ran.asks) ran.did
-
-  pub runs_as_expected : RunsAsExpected words status before.outside after.outside
-  runs_as_expected asked x source are told =
-      by (row_of asked) source (λ o gives. expected laws x o asked (asked_keeps words asked are) gives) (did_of asked are)
-    where
-      by : (row : Row) → IsWithBytes row → ((o : Outcome) → GivesOf row x o → IsExpected asked x o) → DoesRow row status before after
-          → GaveOrCut (IsExpected asked x) status before.outside after.outside
-      by (with_bytes work) source holds did = gave_or_cut before.outside after.outside work x told (IsExpected asked x) holds status did.0.says
-      by (with_files work) source holds did = absurd source
-      by (with_folder format folder) source holds did = absurd source

@@ -18,6 +18,7 @@ use Rattle.flux_cli.specs.Runs.{Finished, IsCut, growth}
 use Rattle.flux_cli.specs.Work.{GivesFront, Got, GotNothing, GotPart, Outcome}
 use Rattle.flux_cli.specs.World.{Outside}
 use Rattle.flux_cli.proofs.Inputs.{rest}
+use Rattle.flux_cli.specs.BytesWork.{of_bytes}
 
 abbrev written : (List ℕ → List ℕ) → List ℕ → Outcome
 written made_of x = record { status = AllGood; image = made_of x; notes = [] }
@@ -75,36 +76,38 @@ pub image-reads : (format : Format) {old new : SourceMoment} → ReadsUpTo (most
 unfolding ReadsUpTo
 image-reads format reads = reads
 
-module _ {S W N : Type 0} (made_of : List ℕ → List ℕ) (format : Format) (before after : Outside S W N)
-    (taken : List ℕ) (consumed : Consumes before.source.bytes after.source.bytes taken) where
+module _ {S W N : Type 0} (made_of : List ℕ → List ℕ) (format : Format) (before after : Outside S SourceMoment W N)
+    (taken : List ℕ) (consumed : Consumes before.input.seen.left after.input.seen.left taken) where
   -- an image, and no more
-  whole-is : (later : List ℕ) → IsWholeImage format taken after.source.bytes → (IsAtEnd after.source.bytes → later ≡ [])
+  whole-is : (later : List ℕ) → IsWholeImage format taken after.input.seen.left → (IsAtEnd after.input.seen.left → later ≡ [])
       → (taken ++ later ≡ taken) × (later ≡ [])
   whole-is later whole ended =
       let none = ended whole.ended in (ap (λ more. taken ++ more) none ∙ append-nil taken, none)
 
   -- all that is made of an image
-  pub image-finish : IsWholeImage format taken after.source.bytes → Appends before.image.bytes after.image.bytes (made_of taken)
-      → Got (growth before.notes after.notes) [] → Finished (image_work made_of format) AllGood before after
+  pub image-finish : IsWholeImage format taken after.input.seen.left → Appends before.image.bytes after.image.bytes (made_of taken)
+      → Got (growth before.notes after.notes) [] → Finished (of_bytes (image_work made_of format)) AllGood before after
   image-finish whole wrote notes =
-      let r = rest before.source after.source taken consumed in
+      let r = rest before.input.seen after.input.seen taken consumed in
       let is = whole-is r.later whole r.ended in record {
-        taken = taken;
-        later = r.later;
-        input = r.input;
         outcome = written made_of taken;
-        gives = sym (ap (image_outcome made_of format) is.0 ∙ is-written made_of format taken whole.size);
+        gives = record {
+          taken = taken;
+          later = r.later;
+          input = r.input;
+          gives = sym (ap (image_outcome made_of format) is.0 ∙ is-written made_of format taken whole.size);
+          leaves = is.1;
+        };
         status_is = refl;
         image_got = wrote;
         notes_got = notes;
-        leaves = is.1;
       }
 
   -- a part of it
-  pub image-cut-image : IsWholeImage format taken after.source.bytes → AppendsPart before.image.bytes after.image.bytes (made_of taken)
-      → Got (growth before.notes after.notes) [] → IsCut (image_work made_of format) ImageFault before after
+  pub image-cut-image : IsWholeImage format taken after.input.seen.left → AppendsPart before.image.bytes after.image.bytes (made_of taken)
+      → Got (growth before.notes after.notes) [] → IsCut (of_bytes (image_work made_of format)) ImageFault before after
   image-cut-image whole wrote notes =
-      let r = rest before.source after.source taken consumed in
+      let r = rest before.input.seen after.input.seen taken consumed in
       let is = whole-is r.later whole r.ended in
       let front : GivesFront (written made_of taken) (growth before.image after.image) (growth before.notes after.notes) = record {
         image_front = (wrote.0, wrote.2);
@@ -122,16 +125,16 @@ module _ {S W N : Type 0} (made_of : List ℕ → List ℕ) (format : Format) (b
 
   -- the source failed
   pub image-cut-read : length taken ≤ (row format).image_size → after.image.bytes ≡ before.image.bytes
-      → GotNothing (growth before.notes after.notes) → IsCut (image_work made_of format) ReadFault before after
+      → GotNothing (growth before.notes after.notes) → IsCut (of_bytes (image_work made_of format)) ReadFault before after
   image-cut-read few same notes =
-      let r = rest before.source after.source taken consumed in record {
+      let r = rest before.input.seen after.input.seen taken consumed in record {
         taken = taken;
         later = r.later;
         input = r.input;
         place = record { few = few; image_got = keeps before.image.bytes after.image.bytes same; notes_got = notes };
       }
 
-  module _ (read wanted : ℕ) (wrongly : IsNoImage format taken after.source.bytes) (read_is : read ≡ length taken)
+  module _ (read wanted : ℕ) (wrongly : IsNoImage format taken after.input.seen.left) (read_is : read ≡ length taken)
       (wanted_is : wanted ≡ (row format).image_size) (same : after.image.bytes ≡ before.image.bytes) where
     text_is : (later : List ℕ) → Wrong format taken later
         → image_text read wanted ≡ image_text (min (length (taken ++ later)) (most_read format)) (row format).image_size
@@ -139,27 +142,29 @@ module _ {S W N : Type 0} (made_of : List ℕ → List ℕ) (format : Format) (b
         ap (λ n. image_text n wanted) (read_is ∙ w.counted) ∙ ap (image_text (min (length (taken ++ later)) (most_read format))) wanted_is
 
     -- the line that refuses other bytes
-    pub image-refuse : Got (growth before.notes after.notes) (image_text read wanted) → Finished (image_work made_of format) Refused before after
+    pub image-refuse : Got (growth before.notes after.notes) (image_text read wanted) → Finished (of_bytes (image_work made_of format)) Refused before after
     image-refuse line =
-        let r = rest before.source after.source taken consumed in
-        let w = wrong format taken r.later after.source.bytes wrongly r.ended in record {
-          taken = taken;
-          later = r.later;
-          input = r.input;
+        let r = rest before.input.seen after.input.seen taken consumed in
+        let w = wrong format taken r.later after.input.seen.left wrongly r.ended in record {
           outcome = refused format (taken ++ r.later);
-          gives = sym (is-refused made_of format (taken ++ r.later) w.size);
+          gives = record {
+            taken = taken;
+            later = r.later;
+            input = r.input;
+            gives = sym (is-refused made_of format (taken ++ r.later) w.size);
+            leaves = w.left;
+          };
           status_is = refl;
           image_got = got-nothing before.image.bytes after.image.bytes same;
           notes_got = subst (Got (growth before.notes after.notes)) (text_is r.later w) line;
-          leaves = w.left;
         }
 
     -- a part of it
     pub image-cut-notes : GotPart (growth before.notes after.notes) (image_text read wanted)
-        → IsCut (image_work made_of format) NotesFault before after
+        → IsCut (of_bytes (image_work made_of format)) NotesFault before after
     image-cut-notes part =
-        let r = rest before.source after.source taken consumed in
-        let w = wrong format taken r.later after.source.bytes wrongly r.ended in
+        let r = rest before.input.seen after.input.seen taken consumed in
+        let w = wrong format taken r.later after.input.seen.left wrongly r.ended in
         let front : GivesFront (refused format (taken ++ r.later)) (growth before.image after.image) (growth before.notes after.notes) = record {
           image_front = (0, got-nothing before.image.bytes after.image.bytes same);
           notes_front = (part.0, subst (λ bytes. Got (growth before.notes after.notes) (take part.0 bytes)) (text_is r.later w) part.2);

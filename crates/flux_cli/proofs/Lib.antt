@@ -7,7 +7,7 @@ pub mod TurnsRun
 pub mod Runs
 pub mod Outcomes
 pub mod Headlines
-pub mod Captured
+pub mod Promised
 pub mod TrialRun
 pub mod PagesRun
 pub mod FolderRun

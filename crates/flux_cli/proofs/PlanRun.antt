@@ -1,5 +1,5 @@
 -- What a command does that reads a disk by a plan, by what the reading says.
-use Rattle.std.proofs.Common.{◌≡◌, ◌==◌, ◌≤◌, ℕ, ◌+◌, ◌*◌, ◌++◌, Bool, true, false, if◌then◌else◌, inl, inr, List, [], take, length, Option, None, Some, Ok, Err, refl, sym, ap, ◌∙◌, subst, append-nil, arith}
+use Rattle.std.proofs.Common.{◌≡◌, ◌==◌, ◌≤◌, ℕ, ◌+◌, ◌*◌, ◌++◌, Bool, true, false, if◌then◌else◌, inl, inr, List, [], take, length, None, Some, Ok, Err, refl, sym, ap, ◌∙◌, subst, append-nil, arith}
 use Rattle.std.proofs.KnownBytes.{Appends-nil, Appends-trans, Keeps-refl}
 use Rattle.disk_map.specs.Answers.{MapsDisk}
 use Rattle.flux_base.specs.Blames.{CountsBy, no_counts, three_counts}
@@ -23,16 +23,17 @@ use Rattle.sector_images.specs.declared.format.Format.{Format}
 use Rattle.sector_report.specs.declared.totals.Totals.{Totals}
 use Rattle.flux_cli.specs.Endings.{EndsBy, in_image, plan_ending}
 use Rattle.flux_cli.specs.PlanWork.{CutByImage, CutByNotes, CutInReading, IsRead, planned_leaves, planned_outcome, planned_refusal, planned_work, status_by, status_of, stop_text, to_image, to_image_cut, to_notes}
-use Rattle.flux_cli.specs.Runs.{Does, Finished, IsCut, IsInput, NoCountFell, Says, WasReadWhereNeeded, growth}
+use Rattle.flux_cli.specs.Runs.{Does, Finished, IsCut, Says, growth}
 use Rattle.flux_cli.specs.TurnsWork.{MOST_AT_ONCE}
 use Rattle.flux_cli.specs.Work.{Got, GotPart, Growth}
-use Rattle.flux_cli.specs.World.{Outside, outside}
+use Rattle.flux_cli.specs.World.{Outside, outside, InputMoment}
 use Rattle.flux_words.specs.declared.commands.Output.{Output}
 use Rattle.flux_words.specs.declared.commands.Output.TheVariants.{ImageAndReport, ReportAlone, Picture}
 use Rattle.flux_cli.proofs.Blaming.{CountsBy-noteless}
 use Rattle.flux_cli.proofs.EndingLaws.{ends-refused, ends-with}
 use Rattle.flux_cli.proofs.Inputs.{Rest, rest}
-use Rattle.flux_cli.proofs.Runs.{done-by}
+use Rattle.kryo_stream.specs.Reads.{SourceMoment}
+use Rattle.flux_cli.specs.BytesWork.{of_bytes, IsInput, WasReadWhereNeeded}
 
 -- both sinks got all of a disk but the refusal
 pub record GotAll (output : Output) (format : Format) (d : Planned) (image notes : Growth) : Type 0 where
@@ -53,13 +54,13 @@ SaysTo plan output format taken later image notes (Err ImageFault) = CutByImage 
 SaysTo plan output format taken later image notes (Err NotesFault) = CutByNotes plan output format (taken ++ later) later image notes
 
 -- what was read to where its output goes
-pub record ReadsTo {S W N : Type 0} (plan : Plan) (output : Output) (format : Format) (before after : Outside S W N) (answer : PlanAnswer) : Type 0 where
+pub record ReadsTo {S W N : Type 0} (plan : Plan) (output : Output) (format : Format) (before after : Outside S SourceMoment W N) (answer : PlanAnswer) : Type 0 where
   pub taken : List ℕ
   pub later : List ℕ
-  pub input : IsInput before.source after.source taken later
+  pub input : IsInput before.input.seen after.input.seen taken later
   pub says : SaysTo plan output format taken later (growth before.image after.image) (growth before.notes after.notes) answer
-  pub blames : CountsBy (stop_blame answer) (three_counts before.source.counts before.image.counts before.notes.counts) (three_counts after.source.counts after.image.counts after.notes.counts)
-  pub needed : WasReadWhereNeeded (planned_work plan output format) before after
+  pub blames : CountsBy (stop_blame answer) (three_counts before.input.counts before.image.counts before.notes.counts) (three_counts after.input.counts after.image.counts after.notes.counts)
+  pub needed : WasReadWhereNeeded (planned_work plan output format) before.input.seen after.input.seen
 
 -- the source failed: what was taken is all that it gave
 cut-reading : (plan : Plan) (output : Output) (format : Format) (taken : List ℕ) (image notes : Growth) (d : Planned) (stop : RefusedCapture)
@@ -89,11 +90,11 @@ report-blames notes (Err ImageFault) counts = absurd (omega (arith, counts.image
 report-blames notes (Err NotesFault) counts = record { source = counts.source; image = counts.notes; notes = Counts-none notes }
 report-blames notes (Err (Refused stop)) counts = record { source = counts.source; image = counts.notes; notes = Counts-none notes }
 
-module _ {S W N : Type 0} (plan : Plan) (format : Format) (before after : Outside S W N) where
+module _ {S W N : Type 0} (plan : Plan) (format : Format) (before after : Outside S SourceMoment W N) where
   -- the image and the report
   says-both : (answer : PlanAnswer)
-      → (d : DecodesPlanned plan (part_by plan.naming) format before.source.bytes after.source.bytes before.image.bytes after.image.bytes before.notes.bytes after.notes.bytes answer)
-      → (r : Rest before.source after.source d.taken)
+      → (d : DecodesPlanned plan (part_by plan.naming) format before.input.seen.left after.input.seen.left before.image.bytes after.image.bytes before.notes.bytes after.notes.bytes answer)
+      → (r : Rest before.input.seen after.input.seen d.taken)
       → SaysTo plan ImageAndReport format d.taken r.later (growth before.image after.image) (growth before.notes after.notes) answer
   says-both (Ok totals) d r =
       let s = d.says r.later (λ never. absurd never) in
@@ -108,20 +109,20 @@ module _ {S W N : Type 0} (plan : Plan) (format : Format) (before after : Outsid
   says-both (Err NotesFault) d r = d.says r.later (λ never. absurd never)
 
   pub reads-both : (answer : PlanAnswer)
-      → DecodesPlanned plan (part_by plan.naming) format before.source.bytes after.source.bytes before.image.bytes after.image.bytes before.notes.bytes after.notes.bytes answer
-      → CountsBy (stop_blame answer) (three_counts before.source.counts before.image.counts before.notes.counts) (three_counts after.source.counts after.image.counts after.notes.counts)
-      → WasReadWhereNeeded (planned_work plan ImageAndReport format) before after → ReadsTo plan ImageAndReport format before after answer
+      → DecodesPlanned plan (part_by plan.naming) format before.input.seen.left after.input.seen.left before.image.bytes after.image.bytes before.notes.bytes after.notes.bytes answer
+      → CountsBy (stop_blame answer) (three_counts before.input.counts before.image.counts before.notes.counts) (three_counts after.input.counts after.image.counts after.notes.counts)
+      → WasReadWhereNeeded (planned_work plan ImageAndReport format) before.input.seen after.input.seen → ReadsTo plan ImageAndReport format before after answer
   reads-both answer d blames needed =
-      let r = rest before.source after.source d.taken d.consumed in
+      let r = rest before.input.seen after.input.seen d.taken d.consumed in
       record { taken = d.taken; later = r.later; input = r.input; says = says-both answer d r; blames = blames; needed = needed }
 
 -- the report alone: the notes are not touched
-module _ {S W N : Type 0} (plan : Plan) (format : Format) (before : Outside S W N) (source : Moment S) (given : Option (List (List ℕ))) (image : Moment W) where
+module _ {S W N : Type 0} (plan : Plan) (format : Format) (before : Outside S SourceMoment W N) (source : InputMoment S SourceMoment) (image : Moment W) where
   abbrev DecodesReport : PlanAnswer → Type 0
-  DecodesReport answer = DecodesPlanned plan (part_by plan.naming) format before.source.bytes source.bytes None None before.image.bytes image.bytes answer
+  DecodesReport answer = DecodesPlanned plan (part_by plan.naming) format before.input.seen.left source.seen.left None None before.image.bytes image.bytes answer
 
-  says-report : (answer : PlanAnswer) → CountsBy (stop_blame answer) (three_counts before.source.counts calm before.image.counts) (three_counts source.counts calm image.counts)
-      → (d : DecodesReport answer) → (r : Rest before.source source d.taken)
+  says-report : (answer : PlanAnswer) → CountsBy (stop_blame answer) (three_counts before.input.counts calm before.image.counts) (three_counts source.counts calm image.counts)
+      → (d : DecodesReport answer) → (r : Rest before.input.seen source.seen d.taken)
       → SaysTo plan ReportAlone format d.taken r.later (growth before.image image) (growth before.notes before.notes) (in_image answer)
   says-report (Ok totals) counts d r =
       let s = d.says r.later (λ never. absurd never) in
@@ -136,18 +137,18 @@ module _ {S W N : Type 0} (plan : Plan) (format : Format) (before : Outside S W 
   says-report (Err NotesFault) counts d r = (d.says r.later (λ never. absurd never), Keeps-refl before.notes.bytes)
 
   pub reads-report : (answer : PlanAnswer) → DecodesReport answer
-      → CountsBy (stop_blame answer) (three_counts before.source.counts calm before.image.counts) (three_counts source.counts calm image.counts)
-      → WasReadWhereNeeded (planned_work plan ReportAlone format) before (outside source given image before.notes)
-      → ReadsTo plan ReportAlone format before (outside source given image before.notes) (in_image answer)
+      → CountsBy (stop_blame answer) (three_counts before.input.counts calm before.image.counts) (three_counts source.counts calm image.counts)
+      → WasReadWhereNeeded (planned_work plan ReportAlone format) before.input.seen source.seen
+      → ReadsTo plan ReportAlone format before (outside source image before.notes) (in_image answer)
   reads-report answer d blames needed =
-      let r = rest before.source source d.taken d.consumed in
+      let r = rest before.input.seen source.seen d.taken d.consumed in
       record { taken = d.taken; later = r.later; input = r.input; says = says-report answer blames d r; blames = report-blames before.notes.counts answer blames; needed = needed }
 
   -- and the picture
   abbrev Maps : PlanAnswer → Type 0
-  Maps answer = MapsDisk plan format before.source.bytes source.bytes before.image.bytes image.bytes answer
+  Maps answer = MapsDisk plan format before.input.seen.left source.seen.left before.image.bytes image.bytes answer
 
-  says-picture : (answer : PlanAnswer) → (d : Maps answer) → (r : Rest before.source source d.taken)
+  says-picture : (answer : PlanAnswer) → (d : Maps answer) → (r : Rest before.input.seen source.seen d.taken)
       → SaysTo plan Picture format d.taken r.later (growth before.image image) (growth before.notes before.notes) answer
   says-picture (Ok totals) d r =
       let s = d.says r.later (λ never. absurd never) in
@@ -162,11 +163,11 @@ module _ {S W N : Type 0} (plan : Plan) (format : Format) (before : Outside S W 
   says-picture (Err NotesFault) d r = absurd (d.says [] (λ _. refl))
 
   pub reads-picture : (answer : PlanAnswer) → Maps answer
-      → CountsBy (stop_blame answer) (three_counts before.source.counts before.image.counts no_counts) (three_counts source.counts image.counts no_counts)
-      → WasReadWhereNeeded (planned_work plan Picture format) before (outside source given image before.notes)
-      → ReadsTo plan Picture format before (outside source given image before.notes) answer
+      → CountsBy (stop_blame answer) (three_counts before.input.counts before.image.counts no_counts) (three_counts source.counts image.counts no_counts)
+      → WasReadWhereNeeded (planned_work plan Picture format) before.input.seen source.seen
+      → ReadsTo plan Picture format before (outside source image before.notes) answer
   reads-picture answer d blames needed =
-      let r = rest before.source source d.taken d.consumed in
+      let r = rest before.input.seen source.seen d.taken d.consumed in
       record { taken = d.taken; later = r.later; input = r.input; says = says-picture answer d r; blames = CountsBy-noteless before.notes.counts _ blames; needed = needed }
 
 leaves-if : (plan : Plan) (format : Format) (x later : List ℕ) (b : Bool) → IsTakenBehind x later (length (tracks format) * plan.captures) 4096
@@ -174,76 +175,78 @@ leaves-if : (plan : Plan) (format : Format) (x later : List ℕ) (b : Bool) → 
 leaves-if plan format x later true few = few
 leaves-if plan format x later false few = few
 
-module _ {S W N : Type 0} (plan : Plan) (output : Output) (format : Format) (before : Outside S W N) where
-  abbrev Reads : Outside S W N → PlanAnswer → Type 0
+module _ {S W N : Type 0} (plan : Plan) (output : Output) (format : Format) (before : Outside S SourceMoment W N) where
+  abbrev Reads : Outside S SourceMoment W N → PlanAnswer → Type 0
   Reads after answer = ReadsTo plan output format before after answer
 
-  did : (answer : PlanAnswer) (status : Status) (after : Outside S W N) → Reads after answer → (planned_work plan output format).ends status → Says (planned_work plan output format) status before after
-      → Does (planned_work plan output format) status before after
-  did answer status after t =
-      done-by (planned_work plan output format) status before after (record { source = t.blames.source.later; image = t.blames.image.later; notes = t.blames.notes.later })
-      t.needed
+  did : (answer : PlanAnswer) (status : Status) (after : Outside S SourceMoment W N) → Reads after answer → (planned_work plan output format).ends status → Says (of_bytes (planned_work plan output format)) status before after
+      → Does (of_bytes (planned_work plan output format)) status before after
+  did answer status after t ends says = record { answer = ends; says = says; keeps = t.needed }
 
-  module _ (source : Moment S) (given : Option (List (List ℕ))) (image : Moment W) where
-    abbrev at : Moment N → Outside S W N
-    at notes = outside source given image notes
+  module _ (source : InputMoment S SourceMoment) (image : Moment W) where
+    abbrev at : Moment N → Outside S SourceMoment W N
+    at notes = outside source image notes
 
     -- all was decoded
-    decoded : (totals : Totals) (mid : Moment N) → Reads (at mid) (Ok totals) → Finished (planned_work plan output format) (status_of totals) before (at mid)
+    decoded : (totals : Totals) (mid : Moment N) → Reads (at mid) (Ok totals) → Finished (of_bytes (planned_work plan output format)) (status_of totals) before (at mid)
     decoded totals mid t =
         let d = t.says.0 in
-        let none = t.says.3 in record {
-          taken = t.taken;
-          later = t.later;
-          input = t.input;
+        let none = t.says.3 in
+        let same : status_of totals ≡ status_by d.totals d.stop = ap status_of t.says.4 ∙ ap (status_by d.totals) (sym none) in record {
           outcome = planned_outcome output plan.naming format d;
-          gives = (d, t.says.1, refl);
-          status_is = ap status_of t.says.4 ∙ ap (status_by d.totals) (sym none);
+          gives = record {
+            taken = t.taken;
+            later = t.later;
+            input = t.input;
+            gives = (d, t.says.1, refl);
+            leaves = subst (λ (s : Status). planned_leaves plan format s (t.taken ++ t.later) t.later) same
+                (leaves-if plan format (t.taken ++ t.later) t.later (totals.good == totals.sectors) t.says.5);
+          };
+          status_is = same;
           image_got = t.says.2.image_got;
           notes_got = subst (Got (growth before.notes mid)) (sym (ap (λ stop. to_notes output d ++ planned_refusal plan.naming stop) none ∙ append-nil (to_notes output d))) t.says.2.notes_got;
-          leaves = leaves-if plan format (t.taken ++ t.later) t.later (totals.good == totals.sectors) t.says.5;
         }
 
-    planned-done : (totals : Totals) (mid : Moment N) → Reads (at mid) (Ok totals) → Does (planned_work plan output format) (status_of totals) before (at mid)
+    planned-done : (totals : Totals) (mid : Moment N) → Reads (at mid) (Ok totals) → Does (of_bytes (planned_work plan output format)) (status_of totals) before (at mid)
     planned-done totals mid t = by (totals.good == totals.sectors) (decoded totals mid t)
       where
-        by : (b : Bool) → Finished (planned_work plan output format) (if b then AllGood else NotAllGood) before (at mid)
-            → Does (planned_work plan output format) (if b then AllGood else NotAllGood) before (at mid)
+        by : (b : Bool) → Finished (of_bytes (planned_work plan output format)) (if b then AllGood else NotAllGood) before (at mid)
+            → Does (of_bytes (planned_work plan output format)) (if b then AllGood else NotAllGood) before (at mid)
         by true done = did (Ok totals) AllGood (at mid) t tt done
         by false done = did (Ok totals) NotAllGood (at mid) t tt done
 
     -- the line of the refusal stands after all that was written
     module _ (mid after : Moment N) (stop : RefusedCapture) (t : Reads (at mid) (Err (Refused stop))) where
-      all_counts : mid.counts.faults ≤ after.counts.faults → NoCountFell before (at after)
-      all_counts later = record { source = t.blames.source.later; image = t.blames.image.later; notes = omega (arith, t.blames.notes.later, later) }
-
-      planned-refused : Got (growth mid after) (stop_text plan.naming stop) → mid.counts.faults ≤ after.counts.faults → Does (planned_work plan output format) RefusedStatus before (at after)
+      planned-refused : Got (growth mid after) (stop_text plan.naming stop) → mid.counts.faults ≤ after.counts.faults → Does (of_bytes (planned_work plan output format)) RefusedStatus before (at after)
       planned-refused line later =
           let d = t.says.0 in
           let stops = t.says.3 in
-          let done : Finished (planned_work plan output format) RefusedStatus before (at after) = record {
-            taken = t.taken;
-            later = t.later;
-            input = t.input;
+          let same : RefusedStatus ≡ status_by d.totals d.stop = ap (status_by d.totals) (sym stops) in
+          let done : Finished (of_bytes (planned_work plan output format)) RefusedStatus before (at after) = record {
             outcome = planned_outcome output plan.naming format d;
-            gives = (d, t.says.1, refl);
-            status_is = ap (status_by d.totals) (sym stops);
+            gives = record {
+              taken = t.taken;
+              later = t.later;
+              input = t.input;
+              gives = (d, t.says.1, refl);
+              leaves = subst (λ (s : Status). planned_leaves plan format s (t.taken ++ t.later) t.later) same
+                  (stop, subst (StopsAt plan format (streams_in plan (t.taken ++ t.later))) stops t.says.1.stops, t.says.4);
+            };
+            status_is = same;
             image_got = t.says.2.image_got;
             notes_got = subst (λ refused. Got (growth before.notes after) (to_notes output d ++ planned_refusal plan.naming refused)) (sym stops)
                 (Appends-trans before.notes.bytes mid.bytes after.bytes (to_notes output d) (stop_text plan.naming stop) t.says.2.notes_got line);
-            leaves = (stop, subst (StopsAt plan format (streams_in plan (t.taken ++ t.later))) stops t.says.1.stops, t.says.4);
           } in record {
             answer = tt;
             says = done;
-            counts = all_counts later;
-            needed = t.needed;
+            keeps = t.needed;
           }
 
       planned-cut-refusal : GotPart (growth mid after) (stop_text plan.naming stop) → mid.counts.faults ≤ after.counts.faults → Rose mid.counts.faults after.counts.faults
-          → Does (planned_work plan output format) NotesFaultStatus before (at after)
+          → Does (of_bytes (planned_work plan output format)) NotesFaultStatus before (at after)
       planned-cut-refusal part later rose =
           let d = t.says.0 in
-          let place : IsCut (planned_work plan output format) NotesFaultStatus before (at after) = record {
+          let place : IsCut (of_bytes (planned_work plan output format)) NotesFaultStatus before (at after) = record {
             taken = t.taken;
             later = t.later;
             input = t.input;
@@ -259,15 +262,14 @@ module _ {S W N : Type 0} (plan : Plan) (output : Output) (format : Format) (bef
           } in record {
             answer = tt;
             says = (place, omega (arith, t.blames.notes.later, rose));
-            counts = all_counts later;
-            needed = t.needed;
+            keeps = t.needed;
           }
 
     -- the command ended so
     abbrev Did : Status → Moment N → Type 0
-    Did s n = Does (planned_work plan output format) s before (at n)
+    Did s n = Does (of_bytes (planned_work plan output format)) s before (at n)
 
-    ended : (answer : PlanAnswer) (status : Status) (mid after : Moment N) → Reads (at mid) answer → EndsBy (plan_ending plan.naming answer) status mid after → Does (planned_work plan output format) status before (at after)
+    ended : (answer : PlanAnswer) (status : Status) (mid after : Moment N) → Reads (at mid) answer → EndsBy (plan_ending plan.naming answer) status mid after → Does (of_bytes (planned_work plan output format)) status before (at after)
     ended (Ok totals) status mid after t is = ends-with Did (status_of totals) status mid after (planned-done totals mid t) is
     ended (Err ReadFault) status mid after t is =
         ends-with Did ReadFaultStatus status mid after (did (Err ReadFault) ReadFaultStatus (at mid) t tt
@@ -283,8 +285,8 @@ module _ {S W N : Type 0} (plan : Plan) (output : Output) (format : Format) (bef
         (planned-refused mid after stop t) (planned-cut-refusal mid after stop t) is
 
 -- for all objects
-pub plan-ended : {S W N : Type 0} (plan : Plan) (output : Output) (format : Format) (before : Outside S W N) (source : Moment S) (given : Option (List (List ℕ))) (image : Moment W)
-    (answer : PlanAnswer) (status : Status) (mid after : Moment N) → ReadsTo plan output format before (outside source given image mid) answer
-    → EndsBy (plan_ending plan.naming answer) status mid after → Does (planned_work plan output format) status before (outside source given image after)
-plan-ended plan output format before source given image answer status mid after t is =
-    ended plan output format before source given image answer status mid after t is
+pub plan-ended : {S W N : Type 0} (plan : Plan) (output : Output) (format : Format) (before : Outside S SourceMoment W N) (source : InputMoment S SourceMoment) (image : Moment W)
+    (answer : PlanAnswer) (status : Status) (mid after : Moment N) → ReadsTo plan output format before (outside source image mid) answer
+    → EndsBy (plan_ending plan.naming answer) status mid after → Does (of_bytes (planned_work plan output format)) status before (outside source image after)
+plan-ended plan output format before source image answer status mid after t is =
+    ended plan output format before source image answer status mid after t is

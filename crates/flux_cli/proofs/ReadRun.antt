@@ -26,16 +26,17 @@ use Rattle.flux_cli.proofs.Often.{fails-by, many-none, often-either, often-if}
 use Rattle.flux_cli.proofs.ShelfEnded.{Answers, none-of-disk, none-or-empty, one-empty, same-kept, same-nothing}
 use Rattle.flux_cli.specs.Blamed.{FailsOften}
 use Rattle.flux_cli.specs.ReadRuns.{AreFailedAlike, FailedAsRead, IsOutcomeOfDumps, IsShown, came_shown, read_outcome, read_status, read_work}
-use Rattle.flux_cli.specs.ShelfWork.{DidOnShelf, empty_outcome}
+use Rattle.flux_cli.specs.ShelfWork.{empty_outcome}
 use Rattle.flux_cli.specs.Work.{Got, Growth, Outcome}
-use Rattle.flux_cli.specs.World.{OnShelf}
+use Rattle.flux_cli.specs.World.{Outside}
 use Rattle.flux_words.specs.declared.options.Shown.{Shown}
 use Rattle.flux_words.specs.declared.options.Shown.TheVariants.{Image, Picture}
+use Rattle.flux_cli.specs.Runs.{Does}
 
 -- what was done in a room that was made for the disk's format
-pub in_room : {H W N : Type 0} (shown : Shown) (disk : DumpDisk) (before after : OnShelf H W N) (held : Format) (status : Status) → held ≡ disk.format
-    → DidOnShelf (read_work shown (record disk { format = held })) status before after → DidOnShelf (read_work shown disk) status before after
-in_room shown disk before after held status same did = subst (λ (f : Format). DidOnShelf (read_work shown (record disk { format = f })) status before after) same did
+pub in_room : {H W N : Type 0} (shown : Shown) (disk : DumpDisk) (before after : Outside H ShelfNow W N) (held : Format) (status : Status) → held ≡ disk.format
+    → Does (read_work shown (record disk { format = held })) status before after → Does (read_work shown disk) status before after
+in_room shown disk before after held status same did = subst (λ (f : Format). Does (read_work shown (record disk { format = f })) status before after) same did
 
 -- whether files failed, and whether the image is all that can be read there
 pub read-done : (totals : DumpTotals) → IsDone (read_status totals)

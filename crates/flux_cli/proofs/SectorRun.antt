@@ -22,9 +22,10 @@ use Rattle.flux_cli.proofs.ReadRun.{Failed, still-failed}
 use Rattle.flux_cli.proofs.ShelfEnded.{Answers, none-of-disk, none-or-empty, one-empty, same-kept}
 use Rattle.flux_cli.specs.Blamed.{FailsOften}
 use Rattle.flux_cli.specs.SectorRuns.{FailedAsShown, IsOutcomeOfSector, ReadingsOfShown, sector_outcome, sector_status, sector_work}
-use Rattle.flux_cli.specs.ShelfWork.{DidOnShelf, empty_outcome}
+use Rattle.flux_cli.specs.ShelfWork.{empty_outcome}
 use Rattle.flux_cli.specs.Work.{Growth, Outcome}
-use Rattle.flux_cli.specs.World.{OnShelf}
+use Rattle.flux_cli.specs.World.{Outside}
+use Rattle.flux_cli.specs.Runs.{Does}
 
 -- whether files failed, and whether there is one content
 pub sector-done : (totals : SectorTotals) → IsDone (sector_status totals)
@@ -65,14 +66,14 @@ module _ (asked : SectorAsked) (start now : ShelfNow) (image notes : Growth) whe
   sector-failed (Err NotesFault) says = record { often = _; fails = tt; many = says.1.shelf.counts; paths = _; told = says.1.shelf.told }
 
 -- what was done in a room that was made for the sector
-pub in_sector_room : {H W N : Type 0} (disk : DumpDisk) (number sector : ℕ) (alone : Option ℕ) (format : Format) (room : SectorRoomState) (status : Status) (before after : OnShelf H W N)
+pub in_sector_room : {H W N : Type 0} (disk : DumpDisk) (number sector : ℕ) (alone : Option ℕ) (format : Format) (room : SectorRoomState) (status : Status) (before after : Outside H ShelfNow W N)
     → IsEmptyRoom format number sector room
-    → DidOnShelf (sector_work (record { disk = record disk { format = room.format }; number = room.number; sector = room.known.sector; alone = alone })) status before after
-    → DidOnShelf (sector_work (record { disk = record disk { format = format }; number = number; sector = sector; alone = alone })) status before after
+    → Does (sector_work (record { disk = record disk { format = room.format }; number = room.number; sector = room.known.sector; alone = alone })) status before after
+    → Does (sector_work (record { disk = record disk { format = format }; number = number; sector = sector; alone = alone })) status before after
 in_sector_room disk number sector alone format room status before after is did =
-    subst (λ (s : ℕ). DidOnShelf (sector_work (record { disk = record disk { format = format }; number = number; sector = s; alone = alone })) status before after) is.sector_is
-    (subst (λ (n : ℕ). DidOnShelf (sector_work (record { disk = record disk { format = format }; number = n; sector = room.known.sector; alone = alone })) status before after) is.number_is
-    (subst (λ (f : Format). DidOnShelf (sector_work (record { disk = record disk { format = f }; number = room.number; sector = room.known.sector; alone = alone })) status before after) is.format_is did))
+    subst (λ (s : ℕ). Does (sector_work (record { disk = record disk { format = format }; number = number; sector = s; alone = alone })) status before after) is.sector_is
+    (subst (λ (n : ℕ). Does (sector_work (record { disk = record disk { format = format }; number = n; sector = room.known.sector; alone = alone })) status before after) is.number_is
+    (subst (λ (f : Format). Does (sector_work (record { disk = record disk { format = f }; number = room.number; sector = room.known.sector; alone = alone })) status before after) is.format_is did))
 
 -- the files, and which of them failed, decide the outcome of `show`, where the streams that came have lists of all readings
 module _ (one : ShownIsOne) (asked : SectorAsked) (files : List File) (captures : List (List NotedReading)) (start now start' now' : ShelfNow)

@@ -21,10 +21,10 @@ use Rattle.track_shelf.specs.Told.{ShelfTold, with_failed}
 use Rattle.flux_cli.proofs.EndingLaws.{AnswersOften, IsDone, ends-refused, ends-with}
 use Rattle.flux_cli.specs.Blamed.{FailsOften}
 use Rattle.flux_cli.specs.Endings.{EndsDumps}
-use Rattle.flux_cli.specs.Runs.{growth}
-use Rattle.flux_cli.specs.ShelfWork.{CutInEmpty, FirstEmpty, SaysOnShelf, ShelfWork, TellsEmpty, empty_outcome}
-use Rattle.flux_cli.specs.Work.{Got, Growth, Outcome}
-use Rattle.flux_cli.specs.World.{ShelfMoment, OnShelf, now_at, on}
+use Rattle.flux_cli.specs.Runs.{growth, Says}
+use Rattle.flux_cli.specs.ShelfWork.{CutInEmpty, FirstEmpty, TellsEmpty, empty_outcome}
+use Rattle.flux_cli.specs.Work.{Got, Growth, Outcome, Work}
+use Rattle.flux_cli.specs.World.{InputMoment, Outside, outside}
 
 -- nothing was written
 pub same-kept : (old new : Option (List ℕ)) → new ≡ old → Keeps old new
@@ -39,7 +39,7 @@ kept-nothing (Some xs) None kept = kept
 kept-nothing (Some xs) (Some ys) kept = kept ∙ sym (append-nil xs)
 
 -- what an answer says of dumps, by the row, with what both sinks got before the work ended
-module _ (work : ShelfWork) (dumps : List (List ℕ)) (start now : ShelfNow) (image notes : Growth) where
+module _ (work : Work ShelfNow) (dumps : List (List ℕ)) (start now : ShelfNow) (image notes : Growth) where
   pub record AllOf (status : Status) : Type 0 where
     pub outcome : Outcome
     pub is : work.gives start now outcome
@@ -62,19 +62,19 @@ module _ (work : ShelfWork) (dumps : List (List ℕ)) (start now : ShelfNow) (im
   Answers by (Err Unwritten) = work.cut ImageFault start now image notes
   Answers by (Err Untold) = work.cut NotesFault start now image notes
 
-module _ {H W N : Type 0} (work : ShelfWork) (dumps : List (List ℕ)) (before : OnShelf H W N) (shelf : ShelfMoment H) (image : Moment W) (mid after : Moment N) (status : Status) where
+module _ {H W N : Type 0} (work : Work ShelfNow) (dumps : List (List ℕ)) (before : Outside H ShelfNow W N) (shelf : InputMoment H ShelfNow) (image : Moment W) (mid after : Moment N) (status : Status) where
   abbrev Did : Status → Moment N → Type 0
-  Did s n = SaysOnShelf work s before (on shelf image n)
+  Did s n = Says work s before (outside shelf image n)
 
   -- the work is done by its row, also where files failed
-  by-row : (n : Moment N) (o : Outcome) → work.gives (now_at before.shelf) (now_at shelf) o → Got (growth before.image image) o.image → Got (growth before.notes n) o.notes
-      → (often : ℕ) → CountsMany often before.shelf.source.counts shelf.source.counts → (s : Status) → IsDone s → FailsOften s often → s ≡ o.status → Did s n
+  by-row : (n : Moment N) (o : Outcome) → work.gives before.input.seen shelf.seen o → Got (growth before.image image) o.image → Got (growth before.notes n) o.notes
+      → (often : ℕ) → CountsMany often before.input.counts shelf.counts → (s : Status) → IsDone s → FailsOften s often → s ≡ o.status → Did s n
   by-row n o is image_got notes_got often many AllGood done fails same =
-      record { outcome = o; is = is; status_is = same; image_got = image_got; notes_got = notes_got }
+      record { outcome = o; gives = is; status_is = same; image_got = image_got; notes_got = notes_got }
   by-row n o is image_got notes_got often many NotAllGood done fails same =
-      record { outcome = o; is = is; status_is = same; image_got = image_got; notes_got = notes_got }
+      record { outcome = o; gives = is; status_is = same; image_got = image_got; notes_got = notes_got }
   by-row n o is image_got notes_got often many ShelfFault done fails same =
-      (record { outcome = o; is = is; status_is = same; image_got = image_got; notes_got = notes_got }, many.cause fails)
+      (inl (record { outcome = o; gives = is; status_is = same; image_got = image_got; notes_got = notes_got }), many.cause fails)
   by-row n o is image_got notes_got often many Refused done fails same = absurd done
   by-row n o is image_got notes_got often many Usage done fails same = absurd done
   by-row n o is image_got notes_got often many ReadFault done fails same = absurd done
@@ -83,10 +83,10 @@ module _ {H W N : Type 0} (work : ShelfWork) (dumps : List (List ℕ)) (before :
   by-row n o is image_got notes_got often many Memory done fails same = absurd done
 
   pub shelf-ended : {A : Type 0} (by : A → Status) → ((done : A) → IsDone (by done)) → (answer : Result A (Stopped NoFiles))
-      → Answers work dumps (now_at before.shelf) (now_at shelf) (growth before.image image) (growth before.notes mid) by answer
-      → (often : ℕ) → AnswersOften by answer often → CountsMany often before.shelf.source.counts shelf.source.counts
+      → Answers work dumps before.input.seen shelf.seen (growth before.image image) (growth before.notes mid) by answer
+      → (often : ℕ) → AnswersOften by answer often → CountsMany often before.input.counts shelf.counts
       → CountsBy (sink_blame answer) (three_counts no_counts before.image.counts before.notes.counts) (three_counts no_counts image.counts mid.counts)
-      → EndsDumps before.shelf.files dumps by answer status mid after → Did status after
+      → EndsDumps before.input.seen.told.files dumps by answer status mid after → Did status after
   shelf-ended by done_is (Ok done) all often fails many counts is =
       ends-with Did (by done) status mid after (by-row mid all.outcome all.is all.image_got all.notes_got often many (by done) (done_is done) fails all.same) is
   shelf-ended by done_is (Err Unwritten) cut often fails many counts is = ends-with Did ImageFault status mid after (cut, counts.image.cause) is.ends
@@ -95,7 +95,7 @@ module _ {H W N : Type 0} (work : ShelfWork) (dumps : List (List ℕ)) (before :
   shelf-ended by done_is (Err (RefusedInput none)) empty often fails many counts is = ends-refused Did is.line status mid after
       (λ all later. record {
         outcome = empty_outcome is.line;
-        is = empty.is is.line is.refuses;
+        gives = empty.is is.line is.refuses;
         status_is = refl;
         image_got = empty.image_got;
         notes_got = subst (λ (old : Option (List ℕ)). Appends old after.bytes is.line) empty.same all;
@@ -112,7 +112,7 @@ ends-over told now dumps by answer status before after paths same is =
     subst (λ (files : Option (List File)). EndsDumps files dumps by answer status before after) (ap (λ (t : ShelfTold). t.files) same) is
 
 -- a dump has none of the disk's files
-pub none-of-disk : (work : ShelfWork) (start now : ShelfNow) (image notes : Growth) (disk : DumpDisk) (number : ℕ) → number < length disk.dumps
+pub none-of-disk : (work : Work ShelfNow) (start now : ShelfNow) (image notes : Growth) (disk : DumpDisk) (number : ℕ) → number < length disk.dumps
     → IsToldEmpty disk start.told.files (Some number) → now ≡ start → image.after ≡ image.before → notes.after ≡ notes.before
     → ((line : List ℕ) → FirstEmpty disk start.told.files line → work.gives start now (empty_outcome line))
     → ((after : Option (List ℕ)) → CutInEmpty disk start now image (record { before = notes.before; after = after })

@@ -1,18 +1,19 @@
 -- What stays said of a run where a line is told behind it.
-use Rattle.std.proofs.Common.{◌≡◌, ℕ, List, Bool, true, false, is_err, Result, subst, sym}
+use Rattle.std.proofs.Common.{◌≡◌, ◌≤◌, ℕ, List, Bool, true, false, is_err, Result, subst, sym}
 use Rattle.flux_base.specs.Counts.{Counts, FaultCounts}
 use Rattle.flux_base.specs.Moments.{Moment, Puts}
 use Rattle.flux_base.specs.declared.outside.Failed.{Failed}
 use Rattle.flux_base.specs.declared.status.Status.{Status}
 use Rattle.flux_base.specs.declared.status.Status.TheVariants.{AllGood, NotAllGood, Refused, Usage, ReadFault, ImageFault, NotesFault, Memory, ShelfFault}
 use Rattle.flux_base.specs.lemmas.Counting.{Counts-then}
-use Rattle.flux_cli.specs.Blamed.{CountsOfNotes, CountsOfRun, all_counts}
-use Rattle.flux_cli.specs.Captured.{FolderAsExpected}
-use Rattle.flux_cli.specs.Headlines.{RunsAsExpected}
+use Rattle.flux_cli.specs.Blamed.{CountsOfNotes, CountsOfRun, all_counts, AllCounts}
 use Rattle.flux_cli.specs.OutputTold.{RanAndTold, ToldIf, failed_output_text, is_told, tells_faults, with_notes}
-use Rattle.flux_cli.specs.ReadHeadline.{ReadsAsExpected}
+use Rattle.flux_words.specs.Asked.{Asked, the_turns, some_streams, a_folder, some_dumps, a_sector, an_identity, written_streams, a_trial, a_g64_file, an_image_of_g64, a_page}
 use Rattle.flux_cli.specs.ShelfRuns.{Ran}
-use Rattle.flux_cli.specs.World.{Outside, OnShelf, World, on_shelf}
+use Rattle.flux_cli.specs.World.{Outside, World, on_shelf, InputMoment, on_source, outside}
+use Rattle.flux_cli.specs.Runs.{Does}
+use Rattle.flux_cli.specs.Promises.{Expected, Promises, known}
+use Rattle.flux_cli.specs.Work.{Outcome}
 
 -- the line that was written, or cut
 pub told-line : {N : Type 0} (told : Bool) (before after : Moment N) (answer : Result (Unit {0}) Failed) → told ≡ true → Puts before after failed_output_text answer
@@ -54,25 +55,35 @@ module _ {N : Type 0} (words : List (List ℕ)) (left after : Moment N) where
     counts-told Memory told c = subst (λ (m : Moment N). CountsOfRun dumps false Memory (all_counts source shelf image notes) (all_counts source' shelf' image' m.counts)) (sym told) c
     counts-told ShelfFault told c = subst (λ (m : Moment N). CountsOfRun dumps false ShelfFault (all_counts source shelf image notes) (all_counts source' shelf' image' m.counts)) (sym told) c
 
+-- the notes before the line failed no less often than at first
+pub notes-later : (dumps : Bool) (status : Status) (before after : AllCounts) → CountsOfRun dumps false status before after → before.notes.faults ≤ after.notes.faults
+notes-later dumps status before after counts = counts.notes.later
+
+-- what was known of work that a fault of the output cut, is known of it behind the line
+output-known : {A V W N : Type 0} (ends : Status → Type 0) (Known : (start now : V) → Outcome → Type 0) (before : Outside A V W N) (input : InputMoment A V) (image : Moment W) (left notes : Moment N)
+    → Does (known ends Known) ImageFault before (outside input image left) → Does (known ends Known) ImageFault before (outside input image notes)
+output-known ends Known before input image left notes did = record { answer = did.answer; says = did.says; keeps = did.keeps }
+
+output_expected : {S W N H : Type 0} (before left : World S W N H) (notes : Moment N) (asked : Asked) → Expected asked ImageFault before left
+    → Expected asked ImageFault before (with_notes notes left)
+output_expected before left notes (some_streams asked) did = output-known _ _ (on_source before) left.source left.image left.notes notes did
+output_expected before left notes (a_folder format folder) did = output-known _ _ (on_shelf before) left.shelf left.image left.notes notes did
+output_expected before left notes (some_dumps asked) did = output-known _ _ (on_shelf before) left.shelf left.image left.notes notes did
+output_expected before left notes (an_image_of_g64 disk) did = output-known _ _ (on_source before) left.source left.image left.notes notes did
+output_expected before left notes (a_trial format seed) did = output-known _ _ (on_source before) left.source left.image left.notes notes did
+output_expected before left notes the_turns did = tt
+output_expected before left notes (a_sector asked) did = tt
+output_expected before left notes (an_identity dump) did = tt
+output_expected before left notes (written_streams format) did = tt
+output_expected before left notes (a_g64_file disk) did = tt
+output_expected before left notes (a_page page) did = tt
+
 -- what a run over all objects left before the line, and what is said of it behind the line
 module _ {S W N H : Type 0} {words : List (List ℕ)} {status : Status} {before left : World S W N H} (ran : Ran words status before left) (notes : Moment N)
-    (told : ToldIf (is_told words status) left.outside.notes notes) where
-  pub ran-told : RanAndTold words status before (with_notes notes left)
-  ran-told = record { notes = left.outside.notes; ran = ran; told = told }
+    (told : ToldIf (is_told words status) left.notes notes) where
+  pub ran-told : before.notes.counts.faults ≤ left.notes.counts.faults → RanAndTold words status before (with_notes notes left)
+  ran-told later = record { notes = left.notes; ran = ran; later = later; told = told }
 
-  over_source : (Says : Status → Outside S W N → Type 0) → (Says ImageFault left.outside → Says ImageFault (record left.outside { notes = notes })) → Says status left.outside
-      → Says status (record left.outside { notes = notes })
-  over_source Says output says = still words left.outside.notes notes (λ s n. Says s (record left.outside { notes = n })) output status told says
-
-  over_shelf : (Says : Status → OnShelf H W N → Type 0) → (Says ImageFault (on_shelf left) → Says ImageFault (record (on_shelf left) { notes = notes })) → Says status (on_shelf left)
-      → Says status (record (on_shelf left) { notes = notes })
-  over_shelf Says output says = still words left.outside.notes notes (λ s n. Says s (record (on_shelf left) { notes = n })) output status told says
-
-  pub expected-told : RunsAsExpected words status before.outside left.outside → RunsAsExpected words status before.outside (record left.outside { notes = notes })
-  expected-told says = over_source (λ s now. RunsAsExpected words s before.outside now) (λ cut. cut) says
-
-  pub folder-told : FolderAsExpected words status (on_shelf before) (on_shelf left) → FolderAsExpected words status (on_shelf before) (record (on_shelf left) { notes = notes })
-  folder-told says = over_shelf (λ s now. FolderAsExpected words s (on_shelf before) now) (λ cut. cut) says
-
-  pub dumps-told : ReadsAsExpected words status (on_shelf before) (on_shelf left) → ReadsAsExpected words status (on_shelf before) (record (on_shelf left) { notes = notes })
-  dumps-told says = over_shelf (λ s now. ReadsAsExpected words s (on_shelf before) now) (λ cut. cut) says
+  pub promises-told : Promises words status before left → Promises words status before (with_notes notes left)
+  promises-told promises asked are =
+      still words left.notes notes (λ s n. Expected asked s before (with_notes n left)) (output_expected before left notes asked) status told (promises asked are)

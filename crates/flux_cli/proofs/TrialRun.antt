@@ -9,26 +9,30 @@ use Rattle.flux_cli.specs.Work.{Got, GotNothing, GotPart}
 use Rattle.flux_cli.specs.World.{Outside}
 use Rattle.flux_cli.proofs.Inputs.{rest}
 use Rattle.std.specs.Io.KnownBytes.{Consumes}
+use Rattle.kryo_stream.specs.Reads.{SourceMoment}
+use Rattle.flux_cli.specs.BytesWork.{of_bytes}
 
-module _ {S W N : Type 0} (format : Format) (seed : ℕ) (before after : Outside S W N) (unread : Consumes before.source.bytes after.source.bytes [])
+module _ {S W N : Type 0} (format : Format) (seed : ℕ) (before after : Outside S SourceMoment W N) (unread : Consumes before.input.seen.left after.input.seen.left [])
     (line : List ℕ) (is : IsTrialLine format seed line) where
-  pub trial-finish : Got (growth before.image after.image) line → Got (growth before.notes after.notes) [] → Finished (trial_work format seed) AllGood before after
+  pub trial-finish : Got (growth before.image after.image) line → Got (growth before.notes after.notes) [] → Finished (of_bytes (trial_work format seed)) AllGood before after
   trial-finish image notes =
-      let r = rest before.source after.source [] unread in record {
-        taken = [];
-        later = r.later;
-        input = r.input;
+      let r = rest before.input.seen after.input.seen [] unread in record {
         outcome = record { status = AllGood; image = line; notes = [] };
-        gives = (line, is, refl);
+        gives = record {
+          taken = [];
+          later = r.later;
+          input = r.input;
+          gives = (line, is, refl);
+          leaves = refl;
+        };
         status_is = refl;
         image_got = image;
         notes_got = notes;
-        leaves = refl;
       }
 
-  pub trial-cut : GotPart (growth before.image after.image) line → GotNothing (growth before.notes after.notes) → IsCut (trial_work format seed) ImageFault before after
+  pub trial-cut : GotPart (growth before.image after.image) line → GotNothing (growth before.notes after.notes) → IsCut (of_bytes (trial_work format seed)) ImageFault before after
   trial-cut image notes =
-      let r = rest before.source after.source [] unread in record {
+      let r = rest before.input.seen after.input.seen [] unread in record {
         taken = [];
         later = r.later;
         input = r.input;

@@ -78,8 +78,8 @@ all_counts source shelf image notes =
     record { source = source; shelf = shelf; image = image; notes = notes }
 
 abbrev pub world_counts : {S W N H : Type 0} → World S W N H → AllCounts
-world_counts now = all_counts now.outside.source.counts now.shelf.source.counts
-    now.outside.image.counts now.outside.notes.counts
+world_counts now =
+    all_counts now.source.counts now.shelf.counts now.image.counts now.notes.counts
 
 -- The notes behind a fault of the output that is told: they failed in its line, or
 -- never. Else as the status says.

@@ -3,6 +3,7 @@
 use Rattle.std.specs.Prelude.{◌≡◌, ◌≢◌, ◌⊎◌, ◌<◌, ◌≤◌, ℕ, List, length, Option, Some, None, Result}
 use Rattle.std.specs.Prelude.{Ok, Err, IfOk, IfSome, OnErr}
 use Rattle.std.specs.List.{slice_get}
+use Rattle.dump_reading.specs.Files.{ShelfNow}
 use Rattle.flux_base.specs.Moments.{Moment}
 use Rattle.flux_base.specs.Outside.{Rose}
 use Rattle.flux_base.specs.declared.outside.Failed.{Failed}
@@ -15,31 +16,25 @@ use Rattle.sector_images.specs.Places.{tracks}
 use Rattle.sector_images.specs.declared.format.Format.{Format}
 use Rattle.track_shelf.specs.Files.{LeavesWanted, NamesMissing}
 use Rattle.track_shelf.specs.Names.{missing_text}
-use Rattle.track_shelf.specs.Told.{with_failed}
+use Rattle.flux_cli.specs.BytesWork.{of_bytes}
 use Rattle.flux_cli.specs.PlanWork.{planned_work}
 use Rattle.flux_cli.specs.Runs.{Does, growth}
 use Rattle.flux_cli.specs.Work.{Got, GotPart}
-use Rattle.flux_cli.specs.World.{ShelfMoment, OnShelf, as_source, told_at}
+use Rattle.flux_cli.specs.World.{InputMoment, Outside, as_source}
 use Rattle.flux_words.specs.declared.commands.Output.TheVariants.{ImageAndReport}
-
--- The shelf stayed as it was but for how often it failed, and for which of its files did:
--- the files that lie on it, none of which is open that was not, its own bytes as a
--- source, and what its reads gave.
-abbrev pub ShelfStays : {H : Type 0} → (before after : ShelfMoment H) → Type 0
-ShelfStays before after =
-    (paths : List (List ℕ)) × (told_at after ≡ with_failed paths (told_at before))
 
 -- what `begin` answered, and what the shelf was before it and after it
 pub record Began {H : Type 0} (folder : List ℕ) (format : Format)
-    (answer : Result (Option ℕ) Failed) (before after : ShelfMoment H) : Type 0 where
+    (answer : Result (Option ℕ) Failed) (before after : InputMoment H ShelfNow) : Type 0 where
   pub bound : IfOk answer (λ missing. IfSome missing (λ number. number < length (tracks format)))
-  pub missing : NamesMissing before.files folder format answer
-  pub left : LeavesWanted before.files folder format answer before.source.bytes after.source.bytes
-  pub kept : after.files ≡ before.files
-  pub unhandled : after.handled ≡ before.handled
-  pub unread : after.given ≡ before.given
-  pub later : before.source.counts.faults ≤ after.source.counts.faults
-  pub cause : OnErr answer (Rose before.source.counts.faults after.source.counts.faults)
+  pub missing : NamesMissing before.seen.told.files folder format answer
+  pub left : LeavesWanted before.seen.told.files folder format answer before.seen.told.left
+      after.seen.told.left
+  pub kept : after.seen.told.files ≡ before.seen.told.files
+  pub unhandled : after.seen.told.handled ≡ before.seen.told.handled
+  pub unread : after.seen.told.given ≡ before.seen.told.given
+  pub later : before.counts.faults ≤ after.counts.faults
+  pub cause : OnErr answer (Rose before.counts.faults after.counts.faults)
 
 -- the notes got the line that says which file is missing; or their fault cut it
 abbrev pub SaysMissing : {N : Type 0} → Status → List ℕ → (before after : Moment N) → Type 0
@@ -50,7 +45,7 @@ SaysMissing _ line before after = ⊥
 
 -- the file of the track of this number is missing: the notes say so, and nothing else is touched
 pub record RefusesMissing {H W N : Type 0} (format : Format) (number : ℕ) (status : Status)
-    (before after : OnShelf H W N) : Type 0 where
+    (before after : Outside H ShelfNow W N) : Type 0 where
   pub track : TrackId
   pub is : slice_get (tracks format) number ≡ Some track
   pub says : SaysMissing status (missing_text number track) before.notes after.notes
@@ -64,16 +59,17 @@ over_shelf status = status
 
 -- what `decode` does with the shelf as its source
 pub record DecodesShelf {H W N : Type 0} (format : Format) (status : Status)
-    (before after : OnShelf H W N) : Type 0 where
+    (before after : Outside H ShelfNow W N) : Type 0 where
   pub inner : Status
   pub status_is : status ≡ over_shelf inner
   pub enough : inner ≢ Memory
-  pub does : Does (planned_work decoding ImageAndReport format) inner (as_source before)
+  pub later : before.input.counts.faults ≤ after.input.counts.faults
+  pub does : Does (of_bytes (planned_work decoding ImageAndReport format)) inner (as_source before)
       (as_source after)
 
 -- what was done by what `begin` answered
 abbrev pub DidBy : {H W N : Type 0} → Format → Result (Option ℕ) Failed → Status
-    → (before after : OnShelf H W N) → Type 0
+    → (before after : Outside H ShelfNow W N) → Type 0
 DidBy format (Err _) status before after = (status ≡ ShelfFault) × (after ≡ before)
 DidBy format (Ok (Some number)) status before after =
     RefusesMissing format number status before after
@@ -81,14 +77,14 @@ DidBy format (Ok None) status before after = DecodesShelf format status before a
 
 -- The shelf was asked for the folder's files, and the rest was done by its answer.
 pub record DidFolder {H W N : Type 0} (format : Format) (folder : List ℕ) (status : Status)
-    (before after : OnShelf H W N) : Type 0 where
+    (before after : Outside H ShelfNow W N) : Type 0 where
   pub answer : Result (Option ℕ) Failed
-  pub shelf : ShelfMoment H
-  pub began : Began folder format answer before.shelf shelf
-  pub did : DidBy format answer status (record before { shelf = shelf }) after
+  pub shelf : InputMoment H ShelfNow
+  pub began : Began folder format answer before.input shelf
+  pub did : DidBy format answer status (record before { input = shelf }) after
 
 -- or there was no memory to begin
 abbrev pub DoesFolder : {H W N : Type 0} → Format → (folder : List ℕ) → Status
-    → (before after : OnShelf H W N) → Type 0
+    → (before after : Outside H ShelfNow W N) → Type 0
 DoesFolder format folder status before after =
     ((status ≡ Memory) × (after ≡ before)) ⊎ DidFolder format folder status before after

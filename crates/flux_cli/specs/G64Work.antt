@@ -14,10 +14,11 @@ use Rattle.g64_image.specs.declared.fault.G64Fault.{G64Fault}
 use Rattle.sector_images.specs.declared.format.Format.{Format}
 use Rattle.flux_cli.specs.PlanWork.{status_by}
 use Rattle.flux_cli.specs.ImagesWork.{image_work}
-use Rattle.flux_cli.specs.Work.{Growth, GotNothing, GotPart, Outcome, Work, ends_in_memory}
+use Rattle.flux_cli.specs.BytesWork.{BytesWork}
+use Rattle.flux_cli.specs.Work.{Growth, GotNothing, GotPart, Outcome, ends_in_memory}
 
 -- the file of an image
-abbrev pub to_g64_work : Format → Work
+abbrev pub to_g64_work : Format → BytesWork
 to_g64_work format = image_work (g64_file format) format
 
 -- why the file is refused, if it is
@@ -75,7 +76,7 @@ from_g64_cut format NotesFault taken later image notes =
 from_g64_cut format _ taken later image notes = ⊥
 
 -- after no more bytes than a file may have, more may follow
-abbrev pub from_g64_work : Format → Work
+abbrev pub from_g64_work : Format → BytesWork
 from_g64_work format = record {
   ends = ends_in_memory;
   gives = λ x o. (d : FileDisk) × IsFileDisk format x d × (o ≡ from_g64_outcome d);

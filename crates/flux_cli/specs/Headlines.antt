@@ -1,12 +1,9 @@
--- What is known of a run whatever its input is, and where that is one that the laws speak of: the
--- streams of captured disks and sets, whole or erased in parts, a file that was written of an
+-- What is known of an outcome whatever the input is, and where that is one that the laws speak of:
+-- the streams of captured disks and sets, whole or erased in parts, a file that was written of an
 -- image, and a trial without a hole.
-use Rattle.std.specs.Prelude.{◌≡◌, ℕ, List, [], length, Some, sum}
-use Rattle.flux_base.specs.Outside.{Rose}
+use Rattle.std.specs.Prelude.{◌≡◌, ℕ, List, [], length, sum}
 use Rattle.flux_base.specs.declared.status.Status.{Status}
-use Rattle.flux_base.specs.declared.status.Status.TheVariants.{AllGood, NotAllGood, Refused, Usage}
-use Rattle.flux_base.specs.declared.status.Status.TheVariants.{ReadFault, ImageFault, NotesFault}
-use Rattle.flux_base.specs.declared.status.Status.TheVariants.{Memory, ShelfFault}
+use Rattle.flux_base.specs.declared.status.Status.TheVariants.{AllGood, NotAllGood}
 use Rattle.flux_base.specs.declared.track.TrackId.{TrackId}
 use Rattle.flux_engine.specs.Captured.{IsUsed}
 use Rattle.flux_engine.specs.DiskLaws.{HasLine}
@@ -32,14 +29,8 @@ use Rattle.sector_report.specs.declared.naming.Naming.TheVariants.{Unnamed}
 use Rattle.turn_merge.specs.declared.clock.Clock.TheVariants.{Held}
 use Rattle.turn_merge.specs.declared.verdict.Place.{Place}
 use Rattle.turn_merge.specs.declared.verdict.Verdict.TheVariants.{Good}
-use Rattle.flux_words.specs.Asked.{Asked, some_streams, a_trial, an_image_of_g64}
-use Rattle.flux_words.specs.CommandWords.{AreWordsOf}
-use Rattle.flux_words.specs.G64Disks.{format_of}
 use Rattle.flux_cli.specs.PlanWork.{to_image, to_notes}
-use Rattle.flux_cli.specs.Runs.{growth}
-use Rattle.flux_cli.specs.Work.{Got, Outcome}
-use Rattle.flux_cli.specs.World.{Outside}
-use Rattle.flux_cli.specs.Works.{IsWithBytes, plan_of, row_of}
+use Rattle.flux_cli.specs.Work.{Outcome}
 use Rattle.flux_words.specs.declared.commands.Output.{Output}
 use Rattle.flux_words.specs.declared.commands.Output.TheVariants.{ImageAndReport, ReportAlone}
 use Rattle.flux_words.specs.declared.commands.Output.TheVariants.{Picture}
@@ -125,39 +116,3 @@ OfTrial format seed o = HasNoHole seed → o ≡ record {
       (sum (trial_image format seed));
   notes = [];
 }
-
--- what is known of a command's outcome over an input; of all others their rows say all
-abbrev pub IsExpected : Asked → (x : List ℕ) → Outcome → Type 0
-IsExpected (some_streams asked) x o = OfShown (plan_of asked.way) asked.output asked.format x o
-IsExpected (an_image_of_g64 disk) x o = OfFile (format_of disk) x o
-IsExpected (a_trial format seed) x o = OfTrial format seed o
-IsExpected _ x o = Unit {0}
-
--- the sinks got all of an outcome of which this holds
-pub record Gave {S W N : Type 0} (Holds : Outcome → Type 0) (status : Status)
-    (before after : Outside S W N) : Type 0 where
-  pub outcome : Outcome
-  pub status_is : status ≡ outcome.status
-  pub image_got : Got (growth before.image after.image) outcome.image
-  pub notes_got : Got (growth before.notes after.notes) outcome.notes
-  pub holds : Holds outcome
-
--- or a fault of one object, which that object counted, cut the run; or there was no memory to begin
-abbrev pub GaveOrCut : {S W N : Type 0} → (Holds : Outcome → Type 0) → Status
-    → (before after : Outside S W N) → Type 0
-GaveOrCut Holds AllGood before after = Gave Holds AllGood before after
-GaveOrCut Holds NotAllGood before after = Gave Holds NotAllGood before after
-GaveOrCut Holds Refused before after = Gave Holds Refused before after
-GaveOrCut Holds Usage before after = Gave Holds Usage before after
-GaveOrCut Holds ReadFault before after = Rose before.source.counts.faults after.source.counts.faults
-GaveOrCut Holds ImageFault before after = Rose before.image.counts.faults after.image.counts.faults
-GaveOrCut Holds NotesFault before after = Rose before.notes.counts.faults after.notes.counts.faults
-GaveOrCut Holds Memory before after = after ≡ before
-GaveOrCut Holds ShelfFault before after = ⊥
-
--- whatever the words ask for of the source, and whatever input it tells
-abbrev pub RunsAsExpected : {S W N : Type 0} → (words : List (List ℕ)) → Status
-    → (before after : Outside S W N) → Type 0
-RunsAsExpected words status before after =
-    (asked : Asked) (x : List ℕ) → IsWithBytes (row_of asked) → AreWordsOf asked words
-    → before.source.bytes ≡ Some x → GaveOrCut (IsExpected asked x) status before after

@@ -12,8 +12,8 @@ use Rattle.dump_reading.specs.Files.{ShelfNow}
 use Rattle.flux_base.specs.declared.status.Status.{Status}
 use Rattle.flux_base.specs.declared.status.Status.TheVariants.{AllGood, NotAllGood, ImageFault}
 use Rattle.flux_base.specs.declared.status.Status.TheVariants.{NotesFault, ShelfFault}
-use Rattle.flux_cli.specs.ShelfWork.{ShelfWork, TellsEmpty, empty_outcome}
-use Rattle.flux_cli.specs.Work.{Growth, Outcome, GotNothing, GotPart}
+use Rattle.flux_cli.specs.ShelfWork.{TellsEmpty, dumps_work, empty_outcome}
+use Rattle.flux_cli.specs.Work.{Growth, Outcome, GotNothing, GotPart, Work}
 
 -- whether one disk explains all of the dump
 abbrev pub best_status : Option Finding → Status
@@ -57,5 +57,5 @@ identity_cut dump NotesFault start now image notes =
     (line : List ℕ) × EmptyDump dump start now line × GotNothing image × GotPart notes line
 identity_cut dump _ start now image notes = ⊥
 
-abbrev pub identity_work : (dump : List ℕ) → ShelfWork
-identity_work dump = record { gives = IsOutcomeOfDump dump; cut = identity_cut dump }
+abbrev pub identity_work : (dump : List ℕ) → Work ShelfNow
+identity_work dump = dumps_work (IsOutcomeOfDump dump) (identity_cut dump)

@@ -9,7 +9,8 @@ use Rattle.flux_engine.specs.Writes.{most_read}
 use Rattle.sector_images.specs.Formats.{row}
 use Rattle.sector_images.specs.declared.format.Format.{Format}
 use Rattle.sector_report.specs.Lines.{image_text}
-use Rattle.flux_cli.specs.Work.{Outcome, Growth, GotNothing, GivesFront, Work, ends_in_memory}
+use Rattle.flux_cli.specs.BytesWork.{BytesWork}
+use Rattle.flux_cli.specs.Work.{Outcome, Growth, GotNothing, GivesFront, ends_in_memory}
 
 -- an image is taken to its end, and of other bytes no more than one more than it has
 abbrev pub image_leaves : Format → Status → (x later : List ℕ) → Type 0
@@ -43,7 +44,7 @@ module _ (made_of : List ℕ → List ℕ) (format : Format) where
   image_cut _ taken later image notes = ⊥
 
   -- after no more bytes than an image has, more may follow
-  abbrev pub image_work : Work
+  abbrev pub image_work : BytesWork
   image_work = record {
     ends = ends_in_memory;
     gives = λ x o. o ≡ image_outcome x;
@@ -53,5 +54,5 @@ module _ (made_of : List ℕ → List ℕ) (format : Format) where
   }
 
 -- the streams of an image's tracks
-abbrev pub write_work : Format → Work
+abbrev pub write_work : Format → BytesWork
 write_work format = image_work (streams_of format) format

@@ -2,6 +2,7 @@ pub mod AskedDisks
 pub mod World
 pub mod Turns
 pub mod Work
+pub mod BytesWork
 pub mod TurnsWork
 pub mod ImagesWork
 pub mod G64Work
@@ -22,5 +23,4 @@ pub mod ShelfRuns
 pub mod OutputTold
 pub mod ReadHeadline
 pub mod Headlines
-pub mod Captured
 pub mod Promises

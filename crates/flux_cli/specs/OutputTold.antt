@@ -1,8 +1,8 @@
 -- What is told of a fault of standard output. Under a word that the usage line does not name the
 -- notes get one line more behind all else, or a front of it where they fail; and nothing else is
 -- called. Under those that it names all is silent.
-use Rattle.std.specs.Prelude.{◌≡◌, ℕ, List, [], ◌∷◌, Bool, true, false, codes, Option, Some, None}
-use Rattle.std.specs.Prelude.{Result}
+use Rattle.std.specs.Prelude.{◌≡◌, ◌≤◌, ℕ, List, [], ◌∷◌, Bool, true, false, codes, Option, Some}
+use Rattle.std.specs.Prelude.{None, Result}
 use Rattle.flux_base.specs.Moments.{Moment, Puts}
 use Rattle.flux_base.specs.declared.outside.Failed.{Failed}
 use Rattle.flux_base.specs.declared.status.Status.{Status}
@@ -39,12 +39,13 @@ ToldIf false before after = after ≡ before
 
 -- the same objects with other notes
 abbrev pub with_notes : {S W N H : Type 0} → Moment N → World S W N H → World S W N H
-with_notes notes now = record now { outside = record now.outside { notes = notes } }
+with_notes notes now = record now { notes = notes }
 
--- What a run with these words did: all that the words ask for, by the notes that it left, and
--- then the line, where one is told.
+-- What a run with these words did: all that the words ask for, by the notes that it left, which had
+-- failed no less often than before; and then the line, where one is told.
 pub record RanAndTold {S W N H : Type 0} (words : List (List ℕ)) (status : Status)
     (before after : World S W N H) : Type 0 where
   pub notes : Moment N
   pub ran : Ran words status before (with_notes notes after)
-  pub told : ToldIf (is_told words status) notes after.outside.notes
+  pub later : before.notes.counts.faults ≤ notes.counts.faults
+  pub told : ToldIf (is_told words status) notes after.notes

@@ -4,7 +4,8 @@ use Rattle.flux_base.specs.declared.status.Status.{Status}
 use Rattle.flux_base.specs.declared.status.Status.TheVariants.{AllGood, ImageFault}
 use Rattle.flux_help.specs.Pages.{page_text}
 use Rattle.flux_help.specs.declared.page.Page.{Page}
-use Rattle.flux_cli.specs.Work.{Growth, GotNothing, GotPart, Work, ends_memoryless}
+use Rattle.flux_cli.specs.BytesWork.{BytesWork}
+use Rattle.flux_cli.specs.Work.{Growth, GotNothing, GotPart, ends_memoryless}
 
 -- nothing is read
 abbrev pub page_leaves : Status → (x later : List ℕ) → Type 0
@@ -17,7 +18,7 @@ page_cut page ImageFault taken later image notes =
     (taken ≡ []) × GotPart image (page_text page) × GotNothing notes
 page_cut page _ taken later image notes = ⊥
 
-abbrev pub page_work : Page → Work
+abbrev pub page_work : Page → BytesWork
 page_work page = record {
   ends = ends_memoryless;
   gives = λ x o. o ≡ record { status = AllGood; image = page_text page; notes = [] };

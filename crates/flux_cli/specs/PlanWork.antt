@@ -26,7 +26,8 @@ use Rattle.sector_report.specs.declared.naming.Naming.TheVariants.{ByCapture, By
 use Rattle.sector_report.specs.declared.naming.Naming.TheVariants.{ByClock, Unnamed}
 use Rattle.sector_report.specs.declared.totals.Totals.{Totals}
 use Rattle.flux_cli.specs.TurnsWork.{MOST_AT_ONCE}
-use Rattle.flux_cli.specs.Work.{Outcome, Growth, Got, GotNothing, Work, ends_in_memory}
+use Rattle.flux_cli.specs.BytesWork.{BytesWork}
+use Rattle.flux_cli.specs.Work.{Outcome, Growth, Got, GotNothing, ends_in_memory}
 use Rattle.flux_words.specs.declared.commands.Output.{Output}
 use Rattle.flux_words.specs.declared.commands.Output.TheVariants.{ImageAndReport, ReportAlone}
 use Rattle.flux_words.specs.declared.commands.Output.TheVariants.{Picture}
@@ -168,7 +169,7 @@ planned_cut plan output format NotesFault taken later image notes =
     ⊎ CutInRefusal plan output format (taken ++ later) later image notes
 planned_cut plan output format _ taken later image notes = ⊥
 
-abbrev pub planned_work : Plan → Output → Format → Work
+abbrev pub planned_work : Plan → Output → Format → BytesWork
 planned_work plan output format = record {
   ends = ends_in_memory;
   gives = λ x o.

@@ -15,8 +15,8 @@ use Rattle.flux_base.specs.declared.status.Status.{Status}
 use Rattle.flux_base.specs.declared.status.Status.TheVariants.{AllGood, NotAllGood, ImageFault}
 use Rattle.flux_base.specs.declared.status.Status.TheVariants.{NotesFault, ShelfFault}
 use Rattle.flux_engine.specs.Plans.{Seen}
-use Rattle.flux_cli.specs.ShelfWork.{CutInEmpty, IsEmptyOr, ShelfWork}
-use Rattle.flux_cli.specs.Work.{Growth, Outcome, GotNothing}
+use Rattle.flux_cli.specs.ShelfWork.{CutInEmpty, IsEmptyOr, dumps_work}
+use Rattle.flux_cli.specs.Work.{Growth, Outcome, GotNothing, Work}
 use Rattle.flux_words.specs.declared.options.Shown.{Shown}
 use Rattle.flux_words.specs.declared.options.Shown.TheVariants.{Image, Picture}
 
@@ -76,5 +76,5 @@ dumps_cut Picture disk ImageFault start now image notes =
 dumps_cut Picture disk NotesFault start now image notes = CutInEmpty disk start now image notes
 dumps_cut _ disk _ start now image notes = ⊥
 
-abbrev pub read_work : Shown → DumpDisk → ShelfWork
-read_work shown disk = record { gives = IsOutcomeOfDumps shown disk; cut = dumps_cut shown disk }
+abbrev pub read_work : Shown → DumpDisk → Work ShelfNow
+read_work shown disk = dumps_work (IsOutcomeOfDumps shown disk) (dumps_cut shown disk)

@@ -11,8 +11,8 @@ use Rattle.sector_copies.specs.Laws.{AreReadingsOfCame}
 use Rattle.sector_copies.specs.Shown.{HasShown, SectorAsked, SectorShown}
 use Rattle.sector_copies.specs.declared.totals.SectorTotals.{SectorTotals}
 use Rattle.turn_merge.specs.Readings.{NotedReading}
-use Rattle.flux_cli.specs.ShelfWork.{CutInEmpty, IsEmptyOr, ShelfWork}
-use Rattle.flux_cli.specs.Work.{Growth, Outcome, Got, GotNothing, GotPart}
+use Rattle.flux_cli.specs.ShelfWork.{CutInEmpty, IsEmptyOr, dumps_work}
+use Rattle.flux_cli.specs.Work.{Growth, Outcome, Got, GotNothing, GotPart, Work}
 
 -- whether a file failed, and else whether good readings of the sector hold one content
 abbrev pub sector_status : SectorTotals → Status
@@ -53,5 +53,5 @@ sector_cut asked NotesFault start now image notes =
     ⊎ CutInEmpty asked.disk start now image notes
 sector_cut asked _ start now image notes = ⊥
 
-abbrev pub sector_work : SectorAsked → ShelfWork
-sector_work asked = record { gives = IsOutcomeOfSector asked; cut = sector_cut asked }
+abbrev pub sector_work : SectorAsked → Work ShelfNow
+sector_work asked = dumps_work (IsOutcomeOfSector asked) (sector_cut asked)

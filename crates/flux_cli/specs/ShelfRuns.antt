@@ -4,25 +4,22 @@ use Rattle.std.specs.Prelude.{◌≡◌, ℕ, List, Option}
 use Rattle.flux_base.specs.declared.status.Status.{Status}
 use Rattle.flux_words.specs.Asked.{Asked}
 use Rattle.flux_words.specs.CommandWords.{AskFor}
+use Rattle.flux_cli.specs.BytesWork.{of_bytes}
 use Rattle.flux_cli.specs.FolderRuns.{DoesFolder}
 use Rattle.flux_cli.specs.Runs.{Does}
-use Rattle.flux_cli.specs.ShelfWork.{DidOnShelf}
 use Rattle.flux_cli.specs.Works.{Row, row_for, with_bytes, with_files, with_folder}
-use Rattle.flux_cli.specs.World.{World, on_shelf}
-
--- the source is as it was, and has given no more
-abbrev pub IsUnread : {S W N H : Type 0} → (before after : World S W N H) → Type 0
-IsUnread before after = (after.outside.source ≡ before.outside.source)
-    × (after.outside.given ≡ before.outside.given)
+use Rattle.flux_cli.specs.World.{World, on_shelf, on_source}
 
 -- The source is not touched where the shelf is read, and the shelf is not where the source may be.
 abbrev pub DoesRow : {S W N H : Type 0} → Row → Status → (before after : World S W N H) → Type 0
 DoesRow (with_bytes work) status before after =
-    Does work status before.outside after.outside × (after.shelf ≡ before.shelf)
+    Does (of_bytes work) status (on_source before) (on_source after)
+    × (after.shelf ≡ before.shelf)
 DoesRow (with_files work) status before after =
-    DidOnShelf work status (on_shelf before) (on_shelf after) × IsUnread before after
+    Does work status (on_shelf before) (on_shelf after) × (after.source ≡ before.source)
 DoesRow (with_folder format folder) status before after =
-    DoesFolder format folder status (on_shelf before) (on_shelf after) × IsUnread before after
+    DoesFolder format folder status (on_shelf before) (on_shelf after)
+    × (after.source ≡ before.source)
 
 -- what a run with these words did
 pub record Ran {S W N H : Type 0} (words : List (List ℕ)) (status : Status)

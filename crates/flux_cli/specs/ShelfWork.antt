@@ -1,70 +1,35 @@
--- What there is to do for a command over dumps on the shelf, and what was done: it gave all that
--- the files come to, or a fault cut it.
+-- What commands over dumps on the shelf have in common: the shelf stays, and a dump that has none
+-- of the wanted files is refused.
 use Rattle.std.specs.Prelude.{◌≡◌, ◌⊎◌, ◌<◌, ℕ, List, [], get_or, length, Option, Some, None}
 use Rattle.dump_reading.specs.Files.{ShelfNow}
 use Rattle.dump_reading.specs.Outcomes.{DumpDisk, IsToldEmpty}
-use Rattle.flux_base.specs.Outside.{Rose}
 use Rattle.flux_base.specs.declared.status.Status.{Status}
-use Rattle.flux_base.specs.declared.status.Status.TheVariants.{AllGood, NotAllGood, Refused, Usage}
-use Rattle.flux_base.specs.declared.status.Status.TheVariants.{ReadFault, ImageFault, NotesFault}
-use Rattle.flux_base.specs.declared.status.Status.TheVariants.{Memory, ShelfFault}
+use Rattle.flux_base.specs.declared.status.Status.TheVariants.{Refused, Usage, ReadFault}
 use Rattle.track_shelf.specs.DumpKinds.{IsKindOf}
 use Rattle.flux_cli.specs.EmptyText.{empty_text}
 use Rattle.track_shelf.specs.Files.{File}
+use Rattle.track_shelf.specs.Told.{with_failed}
 use Rattle.track_shelf.specs.declared.kind.DumpKind.{DumpKind}
-use Rattle.flux_cli.specs.FolderRuns.{ShelfStays}
-use Rattle.flux_cli.specs.Runs.{growth}
-use Rattle.flux_cli.specs.Work.{Got, GotNothing, GotPart, Growth, Outcome}
-use Rattle.flux_cli.specs.World.{OnShelf, now_at}
+use Rattle.flux_cli.specs.Work.{GotNothing, GotPart, Growth, Outcome, Work}
 
--- The row of one command.
-pub record ShelfWork : Type 1 where
-  -- what the files come to that are read between two moments of the shelf, by those that
-  -- are told, and what the shelf did
-  pub gives : (start now : ShelfNow) → Outcome → Type 0
-  -- what both sinks got where a fault of one of them cut the work, by the
-  -- status, which says whose it is
-  pub cut : Status → (start now : ShelfNow) → (image notes : Growth) → Type 0
+-- no command over the shelf ends as words do that ask for nothing, or for the sake of the source
+abbrev pub ends_over_shelf : Status → Type 0
+ends_over_shelf Usage = ⊥
+ends_over_shelf ReadFault = ⊥
+ends_over_shelf _ = Unit {0}
 
--- the work is done: both sinks got all that the files come to, and the status is the outcome's
-pub record FinishedOnShelf {H W N : Type 0} (work : ShelfWork) (status : Status)
-    (before after : OnShelf H W N) : Type 0 where
-  pub outcome : Outcome
-  pub is : work.gives (now_at before.shelf) (now_at after.shelf) outcome
-  pub status_is : status ≡ outcome.status
-  pub image_got : Got (growth before.image after.image) outcome.image
-  pub notes_got : Got (growth before.notes after.notes) outcome.notes
+-- The shelf stayed as it was but for how often it failed, and for which of its files did, since the
+-- files of dumps are read apart from it: the files that lie on it, none of which is open that was
+-- not, its own bytes as a source, and what its reads gave.
+abbrev pub ShelfStays : (start now : ShelfNow) → Type 0
+ShelfStays start now = (paths : List (List ℕ)) × (now.told ≡ with_failed paths start.told)
 
--- it was cut at a place that the command's row states
-abbrev pub IsCutOnShelf : {H W N : Type 0} → ShelfWork → Status → (before after : OnShelf H W N)
-    → Type 0
-IsCutOnShelf work status before after = work.cut status (now_at before.shelf) (now_at after.shelf)
-    (growth before.image after.image) (growth before.notes after.notes)
-
--- What the status says. All was given that the files come to, also where files failed,
--- which the shelf counted; or a fault of a sink, which it counted, cut the work; or
--- there was no memory to begin.
-abbrev pub SaysOnShelf : {H W N : Type 0} → ShelfWork → Status → (before after : OnShelf H W N)
-    → Type 0
-SaysOnShelf work AllGood before after = FinishedOnShelf work AllGood before after
-SaysOnShelf work NotAllGood before after = FinishedOnShelf work NotAllGood before after
-SaysOnShelf work Refused before after = FinishedOnShelf work Refused before after
-SaysOnShelf work Usage before after = ⊥
-SaysOnShelf work ReadFault before after = ⊥
-SaysOnShelf work ImageFault before after = IsCutOnShelf work ImageFault before after
-    × Rose before.image.counts.faults after.image.counts.faults
-SaysOnShelf work NotesFault before after = IsCutOnShelf work NotesFault before after
-    × Rose before.notes.counts.faults after.notes.counts.faults
-SaysOnShelf work Memory before after = after ≡ before
-SaysOnShelf work ShelfFault before after = FinishedOnShelf work ShelfFault before after
-    × Rose before.shelf.source.counts.faults after.shelf.source.counts.faults
-
--- What was done over dumps: what the status says; and whatever it says, the shelf stayed as it was
--- but for the files that failed, since the files of dumps are read apart from it.
-pub record DidOnShelf {H W N : Type 0} (work : ShelfWork) (status : Status)
-    (before after : OnShelf H W N) : Type 0 where
-  pub says : SaysOnShelf work status before after
-  pub stays : ShelfStays before.shelf after.shelf
+-- the row of a command, by what the files come to that are read between two moments of the shelf,
+-- by those that are told, and what the shelf did; and by where a fault of a sink cuts it
+abbrev pub dumps_work : ((start now : ShelfNow) → Outcome → Type 0)
+    → (Status → (start now : ShelfNow) → (image notes : Growth) → Type 0) → Work ShelfNow
+dumps_work gives cut =
+    record { ends = ends_over_shelf; gives = gives; cut = cut; keeps = ShelfStays }
 
 -- The line on the dump of this number, which has none of the wanted files: it tells the dump's
 -- word, and what is there. What is there is so, where the files are told.

@@ -4,7 +4,8 @@ use Rattle.flux_base.specs.declared.status.Status.{Status}
 use Rattle.flux_base.specs.declared.status.Status.TheVariants.{AllGood, ImageFault}
 use Rattle.flux_trial.specs.Tracks.{IsTrialLine}
 use Rattle.sector_images.specs.declared.format.Format.{Format}
-use Rattle.flux_cli.specs.Work.{Growth, GotNothing, GotPart, Work, ends_in_memory}
+use Rattle.flux_cli.specs.BytesWork.{BytesWork}
+use Rattle.flux_cli.specs.Work.{Growth, GotNothing, GotPart, ends_in_memory}
 
 -- nothing is read
 abbrev pub trial_leaves : Status → (x later : List ℕ) → Type 0
@@ -26,7 +27,7 @@ trial_cut format seed ImageFault taken later image notes =
     CutInTrialLine format seed taken image notes
 trial_cut format seed _ taken later image notes = ⊥
 
-abbrev pub trial_work : Format → (seed : ℕ) → Work
+abbrev pub trial_work : Format → (seed : ℕ) → BytesWork
 trial_work format seed = record {
   ends = ends_in_memory;
   gives = λ x o.

@@ -10,7 +10,8 @@ use Rattle.kryo_stream.specs.declared.fault.StreamFault.{StreamFault}
 use Rattle.kryo_stream.specs.declared.fault.StreamFault.TheVariants.{Truncated}
 use Rattle.sector_report.specs.Lines.{refused_text}
 use Rattle.flux_cli.specs.Turns.{turns_text}
-use Rattle.flux_cli.specs.Work.{Outcome, Growth, GotNothing, GivesFront, Work, ends_in_memory}
+use Rattle.flux_cli.specs.BytesWork.{BytesWork}
+use Rattle.flux_cli.specs.Work.{Outcome, Growth, GotNothing, GivesFront, ends_in_memory}
 
 -- the most bytes of padding before a stream, of the stream, and of what an intake holds after it
 abbrev pub MOST_AT_ONCE : ℕ
@@ -51,7 +52,7 @@ turns_cut NotesFault taken later image notes =
 turns_cut _ taken later image notes = ⊥
 
 -- after bytes that end inside a block the stream may go on
-abbrev pub turns_work : Work
+abbrev pub turns_work : BytesWork
 turns_work = record {
   ends = ends_in_memory;
   gives = λ x o. o ≡ turns_outcome x;

@@ -1,10 +1,9 @@
--- What there is to do for a command: what its input comes to, how much of the input it takes,
--- and where a fault may cut it.
+-- What there is to do for a command: what its input comes to, and where a fault may cut it.
 use Rattle.std.specs.Prelude.{ℕ, List, take, Option}
 use Rattle.std.specs.Io.KnownBytes.{Appends, Keeps}
 use Rattle.flux_base.specs.Outside.{AppendsPart}
 use Rattle.flux_base.specs.declared.status.Status.{Status}
-use Rattle.flux_base.specs.declared.status.Status.TheVariants.{Usage, Memory}
+use Rattle.flux_base.specs.declared.status.Status.TheVariants.{Usage, Memory, ShelfFault}
 
 -- a status, the bytes for the image and the bytes for the notes
 pub record Outcome : Type 0 where
@@ -38,27 +37,25 @@ pub record GivesFront (o : Outcome) (image notes : Growth) : Type 0 where
   pub image_front : GotFront image o.image
   pub notes_front : GotFront notes o.notes
 
--- No command ends as words do that ask for nothing; one that takes no
--- memory never ends for want of it.
+-- No command over bytes ends as words do that ask for nothing, or for the sake of the shelf; one
+-- that takes no memory never ends for want of it.
 abbrev pub ends_in_memory : Status → Type 0
 ends_in_memory Usage = ⊥
+ends_in_memory ShelfFault = ⊥
 ends_in_memory _ = Unit {0}
 
 abbrev pub ends_memoryless : Status → Type 0
 ends_memoryless Memory = ⊥
 ends_memoryless status = ends_in_memory status
 
--- The row of one command.
-pub record Work : Type 1 where
+-- The row of one command over an input, by what is seen of that before the work and after it.
+pub record Work (V : Type 0) : Type 1 where
   -- with which statuses it may end
   pub ends : Status → Type 0
-  -- what the input x comes to
-  pub gives : (x : List ℕ) → Outcome → Type 0
-  -- bytes x of the front of an input do not tell what it comes to: the source
-  -- is read after such bytes alone
-  pub untold : (x : List ℕ) → Type 0
-  -- what is left of the input x where all was given, by the status
-  pub leaves : Status → (x later : List ℕ) → Type 0
-  -- where a fault may cut the work, by the status, which says whose fault it is: what was taken of
-  -- the input and what is left, and what both sinks got
-  pub cut : Status → (taken later : List ℕ) → (image notes : Growth) → Type 0
+  -- what the input comes to
+  pub gives : (start now : V) → Outcome → Type 0
+  -- where a fault may cut the work, by the status, which says whose fault it is: what was done with
+  -- the input, and what both sinks got
+  pub cut : Status → (start now : V) → (image notes : Growth) → Type 0
+  -- what stays so of the input, whatever the status
+  pub keeps : (start now : V) → Type 0

@@ -1,5 +1,6 @@
 -- What there is to do for the words: a row for each command, and one for words that are none.
 use Rattle.std.specs.Prelude.{◌≡◌, ℕ, List, [], Option, Some, None}
+use Rattle.dump_reading.specs.Files.{ShelfNow}
 use Rattle.flux_base.specs.declared.status.Status.{Status}
 use Rattle.flux_base.specs.declared.status.Status.TheVariants.{Usage, NotesFault}
 use Rattle.flux_engine.specs.Plans.{decoding, rescuing, set_plan}
@@ -13,10 +14,10 @@ use Rattle.flux_words.specs.CommandWords.{AskFor}
 use Rattle.flux_words.specs.declared.commands.Way.{Way}
 use Rattle.flux_words.specs.declared.commands.Way.TheVariants.{Once, Often, ByBothClocks}
 use Rattle.flux_cli.specs.AskedDisks.{asked_disk, shown_sector}
+use Rattle.flux_cli.specs.BytesWork.{BytesWork}
 use Rattle.flux_cli.specs.IdentityRuns.{identity_work}
 use Rattle.flux_cli.specs.ReadRuns.{read_work}
 use Rattle.flux_cli.specs.SectorRuns.{sector_work}
-use Rattle.flux_cli.specs.ShelfWork.{ShelfWork}
 use Rattle.flux_words.specs.G64Disks.{format_of}
 use Rattle.flux_cli.specs.G64Work.{from_g64_work, to_g64_work}
 use Rattle.flux_cli.specs.ImagesWork.{write_work}
@@ -41,7 +42,7 @@ usage_cut text NotesFault taken later image notes =
     (taken ≡ []) × GotNothing image × GotPart notes text
 usage_cut text _ taken later image notes = ⊥
 
-abbrev pub usage_work : List ℕ → Work
+abbrev pub usage_work : List ℕ → BytesWork
 usage_work text = record {
   ends = usage_ends;
   gives = λ x o. o ≡ record { status = Usage; image = []; notes = text };
@@ -53,8 +54,8 @@ usage_work text = record {
 -- What there is to do: with the bytes of the source, with the files of the shelf, or
 -- with those of a folder there.
 pub data Row : Type 1 where
-  with_bytes : Work → Row
-  with_files : ShelfWork → Row
+  with_bytes : BytesWork → Row
+  with_files : Work ShelfNow → Row
   with_folder : Format → (folder : List ℕ) → Row
 
 -- by what plan streams are read
@@ -82,11 +83,6 @@ row_of (a_page page) = with_bytes (page_work page)
 abbrev pub row_for : List (List ℕ) → Option Asked → Row
 row_for words None = with_bytes (usage_work (wrong_text words))
 row_for words (Some asked) = row_of asked
-
--- it is done with the bytes of the source
-abbrev pub IsWithBytes : Row → Type 0
-IsWithBytes (with_bytes work) = Unit {0}
-IsWithBytes _ = ⊥
 
 -- this is the outcome of the row over the input
 abbrev pub GivesOf : Row → List ℕ → Outcome → Type 0

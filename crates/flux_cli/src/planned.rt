@@ -5,6 +5,7 @@ ghost use Rattle.flux_base.specs.Blames.{CountsBy};
 ghost use Rattle.flux_base.specs.World.{counts_at};
 ghost use Rattle.flux_base.specs.declared.status.Status.{Status};
 ghost use Rattle.flux_cli.specs.Blamed.{source_blame};
+ghost use Rattle.flux_cli.specs.BytesWork.{of_bytes};
 ghost use Rattle.flux_cli.specs.Endings.{in_image as answer_in_image};
 ghost use Rattle.flux_cli.specs.PlanWork.{planned_work, stop_text};
 ghost use Rattle.flux_cli.specs.Runs.{Does};
@@ -32,7 +33,7 @@ pub(crate) fn decode_by_plan<S: Source, W: Sink, N: Sink>(
 ) -> Status
     requires some { 1 ≤ plan.captures }
     requires few { plan.captures ≤ 16 }
-    ensures does { Does (planned_work plan output format) result
+    ensures does { Does (of_bytes (planned_work plan output format)) result
         (outside_at S.Source W.Sink N.Sink source.old image.old notes.old)
         (outside_at S.Source W.Sink N.Sink source.new image.new notes.new) }
     ensures blames { CountsBy (source_blame result)
@@ -58,7 +59,7 @@ pub fn decode<S: Source, W: Sink, N: Sink>(
     requires fresh { room.old ≡ fresh room.old.format }
     requires some { 1 ≤ plan.captures }
     requires few { plan.captures ≤ 16 }
-    ensures does { Does (planned_work plan output room.old.format) result
+    ensures does { Does (of_bytes (planned_work plan output room.old.format)) result
         (outside_at S.Source W.Sink N.Sink source.old image.old notes.old)
         (outside_at S.Source W.Sink N.Sink source.new image.new notes.new) }
     ensures blames { CountsBy (source_blame result)

@@ -6,7 +6,7 @@ ghost use Rattle.flux_base.specs.World.{counts_at};
 ghost use Rattle.flux_cli.specs.Blamed.{CountsOnShelf};
 ghost use Rattle.dump_reading.specs.Outcomes.{disk_of};
 ghost use Rattle.flux_cli.specs.ReadRuns.{read_status, read_work};
-ghost use Rattle.flux_cli.specs.ShelfWork.{DidOnShelf};
+ghost use Rattle.flux_cli.specs.Runs.{Does};
 ghost use Rattle.flux_cli.specs.World.{on_shelf_at};
 ghost use Rattle.flux_engine.specs.Room.{fresh};
 
@@ -29,7 +29,7 @@ pub fn show<H: Shelf, W: Sink, N: Sink>(
 ) -> Status
     requires fresh { room.old ≡ fresh room.old.format }
     requires few { length dumps.now.names.now ≤ 16 }
-    ensures did { DidOnShelf (read_work shown (disk_of dumps.now room.old.format)) result
+    ensures did { Does (read_work shown (disk_of dumps.now room.old.format)) result
         (on_shelf_at H.Source H.Shelf.own W.Sink N.Sink shelf.old image.old notes.old)
         (on_shelf_at H.Source H.Shelf.own W.Sink N.Sink shelf.new image.new notes.new) }
     ensures blames { CountsOnShelf true result

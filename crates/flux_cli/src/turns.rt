@@ -3,6 +3,7 @@ ghost use Rattle.flux_base.specs.Blames.{CountsBy};
 ghost use Rattle.flux_base.specs.Moments.{Puts};
 ghost use Rattle.flux_base.specs.World.{sink_at, counts_at};
 ghost use Rattle.flux_cli.specs.Blamed.{source_blame};
+ghost use Rattle.flux_cli.specs.BytesWork.{of_bytes};
 ghost use Rattle.flux_cli.specs.Runs.{Does};
 ghost use Rattle.flux_cli.specs.Turns.{turn_lines, turns_text};
 ghost use Rattle.flux_cli.specs.TurnsWork.{turns_work};
@@ -23,7 +24,7 @@ pub fn print_turns<S: Source, W: Sink, N: Sink>(
     notes: &mut N,
 ) -> Status
     requires { IsFresh room.old }
-    ensures does { Does turns_work result
+    ensures does { Does (of_bytes turns_work) result
         (outside_at S.Source W.Sink N.Sink source.old image.old notes.old)
         (outside_at S.Source W.Sink N.Sink source.new image.new notes.new) }
     ensures blames { CountsBy (source_blame result)

@@ -4,28 +4,30 @@ use Rattle.flux_base.specs.lemmas.Blaming.{CountsBy-source, CountsBy-then}
 use Rattle.flux_base.specs.World.{sink_at}
 use Rattle.flux_cli.proofs.Blaming.{other_blames}
 use Rattle.flux_cli.proofs.Ended.{missing-refused}
-use Rattle.flux_cli.proofs.EndingLaws.{IsOverShelf, IsOverSource, ended-by-line, ends-blame}
+use Rattle.flux_cli.proofs.EndingLaws.{IsOverSource, ended-by-line, ends-blame}
 use Rattle.flux_cli.specs.Endings.{refuses}
 use Rattle.flux_cli.specs.Blamed.{shelf_blame}
 use Rattle.flux_cli.proofs.FolderRun.{decoded-so, folder-decodes, folder-fails, folder-lacks, other_status}
 use Rattle.flux_engine.specs.Room.{RoomState}
+use Rattle.flux_cli.specs.ShelfWork.{ends_over_shelf}
+use Rattle.flux_cli.specs.World.{shelf_input}
 use Rattle.flux_cli.proofs.folder.decode_folder.Goals as goal
 
 pub returns-in-ReadFault-clause-did : goal.returns-in-ReadFault-clause-did
 returns-in-ReadFault-clause-did g c =
     let e = c.begin.ensures in
-    folder-decodes c.args.format c.args.folder.now _ _ _ c.begin.result _
+    folder-decodes c.args.format c.args.folder.now _ _ _ c.begin.result (shelf_input g.H.Source g.H.Shelf c.begin.new.self)
     (record { bound = e.bound; missing = e.missing; left = e.left; kept = e.kept; unhandled = e.unhandled; unread = e.unread; later = e.later; cause = e.cause })
     (c.in-Ok-None.is ∙ ap Ok c.in-Ok-None.field-0-is)
-    (record { inner = ReadFault; status_is = refl; enough = λ same. c.decode.ensures.memory (c.in-ReadFault.is ∙ same); does = decoded-so c.decoding_plan-plan.result c.args.room.now.format c.args.format ReadFault _ _ c.decoding_plan-plan.ensures (ap (λ (room : RoomState). room.format) c.requires) c.in-ReadFault.ensures.does })
+    (record { inner = ReadFault; status_is = refl; enough = λ same. c.decode.ensures.memory (c.in-ReadFault.is ∙ same); later = c.decode.ensures.blames.source.later; does = decoded-so c.decoding_plan-plan.result c.args.room.now.format c.args.format ReadFault _ _ c.decoding_plan-plan.ensures (ap (λ (room : RoomState). room.format) c.requires) c.in-ReadFault.ensures.does })
 
 pub returns-in_default-clause-did : goal.returns-in_default-clause-did
 returns-in_default-clause-did g c =
     let e = c.begin.ensures in
-    folder-decodes c.args.format c.args.folder.now _ _ _ c.begin.result _
+    folder-decodes c.args.format c.args.folder.now _ _ _ c.begin.result (shelf_input g.H.Source g.H.Shelf c.begin.new.self)
     (record { bound = e.bound; missing = e.missing; left = e.left; kept = e.kept; unhandled = e.unhandled; unread = e.unread; later = e.later; cause = e.cause })
     (c.in-Ok-None.is ∙ ap Ok c.in-Ok-None.field-0-is)
-    (record { inner = c.decode.result; status_is = other_status c.decode.result c.in_default.not-ReadFault; enough = c.decode.ensures.memory; does = decoded-so c.decoding_plan-plan.result c.args.room.now.format c.args.format c.decode.result _ _ c.decoding_plan-plan.ensures (ap (λ (room : RoomState). room.format) c.requires) c.decode.ensures.does })
+    (record { inner = c.decode.result; status_is = other_status c.decode.result c.in_default.not-ReadFault; enough = c.decode.ensures.memory; later = c.decode.ensures.blames.source.later; does = decoded-so c.decoding_plan-plan.result c.args.room.now.format c.args.format c.decode.result _ _ c.decoding_plan-plan.ensures (ap (λ (room : RoomState). room.format) c.requires) c.decode.ensures.does })
 
 pub returns-in_default-clause-memory : goal.returns-in_default-clause-memory
 returns-in_default-clause-memory g c = c.decode.ensures.memory
@@ -71,7 +73,7 @@ returns-in-Ok-Some-clause-blames g c =
     (CountsBy-source _ _ false (record { later = c.begin.ensures.later; cause = tt; counted = c.in-Ok-Some.ensures.counted })) c.refuse.ensures
 
 pub returns-in-Ok-Some-clause-no_source : goal.returns-in-Ok-Some-clause-no_source
-returns-in-Ok-Some-clause-no_source g c = λ same. subst IsOverShelf same (ended-by-line _ _ c.refuse.result _ IsOverShelf tt tt c.refuse.ensures)
+returns-in-Ok-Some-clause-no_source g c = λ same. subst ends_over_shelf same (ended-by-line _ _ c.refuse.result _ ends_over_shelf tt tt c.refuse.ensures)
 
 pub returns-in-Ok-Some-clause-memory : goal.returns-in-Ok-Some-clause-memory
 returns-in-Ok-Some-clause-memory g c = λ same. subst IsOverSource same (ended-by-line _ _ c.refuse.result _ IsOverSource tt tt c.refuse.ensures)

@@ -4,19 +4,20 @@ use Rattle.flux_cli.proofs.EndingLaws.{IsOverSource, ends-blame, plan-blame, pla
 use Rattle.flux_cli.proofs.PlanRun.{plan-ended, reads-both, reads-picture, reads-report, report-blames}
 use Rattle.flux_cli.specs.Blamed.{source_blame}
 use Rattle.flux_cli.specs.Endings.{in_image}
+use Rattle.flux_words.specs.declared.commands.Output.TheVariants.{ImageAndReport, ReportAlone, Picture}
 use Rattle.flux_cli.proofs.planned.decode.Goals as goal
 
 pub returns-in-ImageAndReport-clause-does : goal.returns-in-ImageAndReport-clause-does
 returns-in-ImageAndReport-clause-does g c =
     let e = c.decode_planned-answer.ensures in
-    rw c.in-ImageAndReport.is (plan-ended _ _ _ _ _ _ _ c.decode_planned-answer.result c.end_of_plan.result _ _
+    rw c.in-ImageAndReport.is (plan-ended c.args.plan ImageAndReport c.args.room.now.format _ _ _ c.decode_planned-answer.result c.end_of_plan.result _ _
     (reads-both c.args.plan c.args.room.now.format _ _ c.decode_planned-answer.result e.decoded e.blames e.needed) c.end_of_plan.ensures)
 
 pub returns-in-ReportAlone-clause-does : goal.returns-in-ReportAlone-clause-does
 returns-in-ReportAlone-clause-does g c =
     let e = c.decode_planned-answer-in-ReportAlone.ensures in
-    rw c.in-ReportAlone.is (plan-ended _ _ _ _ _ _ _ (in_image c.decode_planned-answer-in-ReportAlone.result) c.end_of_plan-in-ReportAlone.result _ _
-    (reads-report c.args.plan c.args.room.now.format _ _ _ _ c.decode_planned-answer-in-ReportAlone.result e.decoded e.blames e.needed) (rw c.in_image.ensures at c.end_of_plan-in-ReportAlone.ensures))
+    rw c.in-ReportAlone.is (plan-ended c.args.plan ReportAlone c.args.room.now.format _ _ _ (in_image c.decode_planned-answer-in-ReportAlone.result) c.end_of_plan-in-ReportAlone.result _ _
+    (reads-report c.args.plan c.args.room.now.format _ _ _ c.decode_planned-answer-in-ReportAlone.result e.decoded e.blames e.needed) (rw c.in_image.ensures at c.end_of_plan-in-ReportAlone.ensures))
 
 pub returns-in-ImageAndReport-clause-blames : goal.returns-in-ImageAndReport-clause-blames
 returns-in-ImageAndReport-clause-blames g c =
@@ -44,8 +45,8 @@ returns-in-ReportAlone-clause-memory g c = λ same. subst IsOverSource same (pla
 pub returns-in-Picture-clause-does : goal.returns-in-Picture-clause-does
 returns-in-Picture-clause-does g c =
     let e = c.map_disk-answer.ensures in
-    rw c.in-Picture.is (plan-ended _ _ _ _ _ _ _ c.map_disk-answer.result c.end_of_plan-in-Picture.result _ _
-    (reads-picture c.args.plan c.args.room.now.format _ _ _ _ c.map_disk-answer.result e.mapped e.blames e.needed) c.end_of_plan-in-Picture.ensures)
+    rw c.in-Picture.is (plan-ended c.args.plan Picture c.args.room.now.format _ _ _ c.map_disk-answer.result c.end_of_plan-in-Picture.result _ _
+    (reads-picture c.args.plan c.args.room.now.format _ _ _ c.map_disk-answer.result e.mapped e.blames e.needed) c.end_of_plan-in-Picture.ensures)
 
 pub returns-in-Picture-clause-blames : goal.returns-in-Picture-clause-blames
 returns-in-Picture-clause-blames g c =

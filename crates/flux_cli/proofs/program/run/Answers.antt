@@ -1,10 +1,9 @@
 use Rattle.flux_base.specs.Moments.{Moment}
 use Rattle.flux_base.specs.World.{sink_at}
 use Rattle.flux_cli.specs.Blamed.{reads_dumps}
-use Rattle.flux_cli.proofs.Captured.{folder_as_expected}
-use Rattle.flux_cli.proofs.Headlines.{Laws, runs_as_expected}
-use Rattle.flux_cli.proofs.ReadHeadline.{reads_as_expected}
-use Rattle.flux_cli.proofs.Telling.{counts-told, dumps-told, expected-told, folder-told, ran-told}
+use Rattle.flux_cli.proofs.Headlines.{Laws}
+use Rattle.flux_cli.proofs.Promised.{promised}
+use Rattle.flux_cli.proofs.Telling.{counts-told, notes-later, promises-told, ran-told}
 use Rattle.flux_cli.proofs.program.run.Given.{Over}
 use Rattle.flux_cli.proofs.program.run.Goals as goal
 
@@ -28,7 +27,8 @@ abbrev behind : (g : Over) (c : goal.After-tell_output g) → Moment g.row.N.Den
 behind g c = sink_at g.N.Sink c.tell_output.new.notes
 
 pub returns-clause-ran : goal.returns-clause-ran
-returns-clause-ran g c = ran-told c.run_words-status.ensures.ran (behind g c) c.tell_output.ensures
+returns-clause-ran g c =
+    ran-told c.run_words-status.ensures.ran (behind g c) c.tell_output.ensures (notes-later _ _ _ _ c.run_words-status.ensures.counts)
 
 pub returns-clause-counts : goal.returns-clause-counts
 returns-clause-counts g c = counts-told c.args.words.now _ (behind g c) (reads_dumps c.args.words.now) _ _ _ _ _ _ _ c.run_words-status.result c.tell_output.ensures c.run_words-status.ensures.counts
@@ -39,24 +39,21 @@ returns-clause-promises g c =
     let lines = c.dump_reports_have_lines.ensures in
     let told = c.dump_lines_tell.ensures in
     let read = c.captured_dumps_are_read.ensures in
-    record {
-      expected = expected-told c.run_words-status.ensures.ran (behind g c) c.tell_output.ensures (runs_as_expected (laws g c) _ _ _ _ c.run_words-status.ensures.ran);
-      folder = folder-told c.run_words-status.ensures.ran (behind g c) c.tell_output.ensures (folder_as_expected (laws g c) _ _ _ _ c.run_words-status.ensures.ran);
-      dumps = dumps-told c.run_words-status.ensures.ran (behind g c) c.tell_output.ensures (reads_as_expected (record {
-        said = said.said;
-        of_files = said.of_files;
-        of_files_beside = said.beside_of_files;
-        right = said.right;
-        told = told.told;
-        once = told.once;
-        passed = lines.passed;
-        passed_beside = lines.passed_beside;
-        passed_told = told.passed_told;
-        count = lines.count;
-        complete = c.complete_dumps_are_all_read.ensures;
-        stays = said.stays;
-        whole = read.never_wrong;
-        steady = read.well;
-        pictures = c.dumps_are_drawn_as_reported.ensures;
-      }) (laws g c) _ _ _ _ c.run_words-status.ensures.ran);
-    }
+    promises-told c.run_words-status.ensures.ran (behind g c) c.tell_output.ensures
+    (promised (laws g c) (record {
+      said = said.said;
+      of_files = said.of_files;
+      of_files_beside = said.beside_of_files;
+      right = said.right;
+      told = told.told;
+      once = told.once;
+      passed = lines.passed;
+      passed_beside = lines.passed_beside;
+      passed_told = told.passed_told;
+      count = lines.count;
+      complete = c.complete_dumps_are_all_read.ensures;
+      stays = said.stays;
+      whole = read.never_wrong;
+      steady = read.well;
+      pictures = c.dumps_are_drawn_as_reported.ensures;
+    }) c.run_words-status.result _ _ c.args.words.now c.run_words-status.ensures.ran)

@@ -1,4 +1,4 @@
-use Rattle.std.proofs.Common.{◌≡◌, Some, None, true, false, arith, refl}
+use Rattle.std.proofs.Common.{◌≡◌, Some, None, true, false, refl}
 use Rattle.std.proofs.KnownBytes.{Appends-nil, Consumes-nil, Keeps-refl}
 use Rattle.flux_help.specs.WrongWords.{wrong_text}
 use Rattle.flux_base.specs.declared.status.Status.TheVariants.{NotesFault, ShelfFault, Usage}
@@ -39,8 +39,7 @@ returns-in-Ok-clause-ran g c = record {
     record {
       answer = tt;
       says = usage-finish _ _ (Consumes-nil _) (wrong_text c.args.words.now) (Appends-nil _) c.in-Ok.ensures.ok;
-      counts = record { source = omega arith; image = omega arith; notes = c.in-Ok.ensures.counts.later };
-      needed = λ x told. no_reads (usage_work (wrong_text c.args.words.now)).untold _;
+      keeps = λ x told. no_reads (usage_work (wrong_text c.args.words.now)).untold _;
     },
     refl,
   );
@@ -54,11 +53,10 @@ returns-in-Err-clause-ran g c = record {
     record {
       answer = tt;
       says = (
-        usage-cut _ _ (Consumes-nil _) (wrong_text c.args.words.now) (Keeps-refl _) c.in-Err.ensures.err,
+        usage-cut _ _ _ _ (Consumes-nil _) (wrong_text c.args.words.now) (Keeps-refl _) c.in-Err.ensures.err,
         c.in-Err.ensures.counts.cause,
       );
-      counts = record { source = omega arith; image = omega arith; notes = c.in-Err.ensures.counts.later };
-      needed = λ x told. no_reads (usage_work (wrong_text c.args.words.now)).untold _;
+      keeps = λ x told. no_reads (usage_work (wrong_text c.args.words.now)).untold _;
     },
     refl,
   );

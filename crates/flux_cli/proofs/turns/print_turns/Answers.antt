@@ -1,4 +1,4 @@
-use Rattle.std.proofs.Common.{true, false, arith, refl}
+use Rattle.std.proofs.Common.{true, false, refl}
 use Rattle.std.proofs.KnownBytes.{Appends-nil, Keeps-refl}
 use Rattle.flux_base.specs.lemmas.Blaming.{CountsBy-image, CountsBy-source, CountsBy-then}
 use Rattle.flux_base.specs.World.{sink_at}
@@ -14,39 +14,36 @@ returns-in-Ok-write_turns-clause-does g c = record {
   answer = tt;
   says = turns-finish _ _ c.read.new.self.held c.read.new.self.flux c.in-Ok.field-0
       (rw (c.requires.held, c.requires.unused) at c.in-Ok.ensures.read) c.in-Ok.ensures.bound (rw c.flux.ensures at c.in-Ok-write_turns.ensures.ok) (Appends-nil _);
-  counts = record { source = c.in-Ok.ensures.later; image = c.in-Ok-write_turns.ensures.counts.later; notes = omega arith };
-  needed = λ x told. turns-reads (rw (c.requires.held, c.requires.unused) at c.in-Ok.ensures.needed);
+  keeps = λ x told. turns-reads (rw (c.requires.held, c.requires.unused) at c.in-Ok.ensures.needed);
 }
 
 pub returns-in-Err-clause-does : goal.returns-in-Err-clause-does
 returns-in-Err-clause-does g c = record {
   answer = tt;
   says = (
-    turns-cut-image _ _ c.read.new.self.held c.read.new.self.flux c.in-Ok.field-0
+    turns-cut-image _ _ _ _ c.read.new.self.held c.read.new.self.flux c.in-Ok.field-0
         (rw (c.requires.held, c.requires.unused) at c.in-Ok.ensures.read) (rw c.flux.ensures at c.in-Err.ensures.err) (Appends-nil _),
     c.in-Err.ensures.counts.cause,
   );
-  counts = record { source = c.in-Ok.ensures.later; image = c.in-Err.ensures.counts.later; notes = omega arith };
-  needed = λ x told. turns-reads (rw (c.requires.held, c.requires.unused) at c.in-Ok.ensures.needed);
+  keeps = λ x told. turns-reads (rw (c.requires.held, c.requires.unused) at c.in-Ok.ensures.needed);
 }
 
 pub returns-in-Err-ReadFault-clause-does : goal.returns-in-Err-ReadFault-clause-does
 returns-in-Err-ReadFault-clause-does g c = record {
   answer = tt;
   says = (
-    turns-cut-read _ _ c.read.new.self.held c.read.new.self.flux
+    turns-cut-read _ _ _ _ c.read.new.self.held c.read.new.self.flux
         (rw (c.in-Err-ReadFault.field-0-is, c.requires.held, c.requires.unused) at c.in-Err-ReadFault.ensures.read) (Keeps-refl _) (Keeps-refl _),
     (rw c.in-Err-ReadFault.field-0-is at c.in-Err-ReadFault.ensures.cause),
   );
-  counts = record { source = c.in-Err-ReadFault.ensures.later; image = omega arith; notes = omega arith };
-  needed = λ x told. turns-reads (rw (c.requires.held, c.requires.unused) at c.in-Err-ReadFault.ensures.needed);
+  keeps = λ x told. turns-reads (rw (c.requires.held, c.requires.unused) at c.in-Err-ReadFault.ensures.needed);
 }
 
 pub returns-in-Err-Refused-clause-does : goal.returns-in-Err-Refused-clause-does
 returns-in-Err-Refused-clause-does g c =
     let e = c.in-Err-Refused in
-    turns-refused _ _ _ c.refuse.result c.read.new.self.held c.read.new.self.flux e.block e.fault _
-    (rw (e.field-0-is, c.requires.held, c.requires.unused) at e.ensures.read) e.ensures.later
+    turns-refused _ _ c.refuse.result c.read.new.self.held c.read.new.self.flux e.block e.fault _
+    (rw (e.field-0-is, c.requires.held, c.requires.unused) at e.ensures.read)
     (λ x told. turns-reads (rw (c.requires.held, c.requires.unused) at e.ensures.needed)) (rw c.refused_line.ensures at c.refuse.ensures)
 
 pub returns-in-Ok-write_turns-clause-blames : goal.returns-in-Ok-write_turns-clause-blames

@@ -3,10 +3,10 @@ use Rattle.flux_cli.proofs.Blaming.{memoryless, run-of-shelf}
 use Rattle.flux_cli.proofs.shelf_task.DecodeFolderTask.run.Goals as goal
 
 pub returns-in-Ok-clause-did : goal.returns-in-Ok-clause-did
-returns-in-Ok-clause-did g c = (inr (rw c.bytes.ensures at c.decode_folder.ensures.did), (refl, refl))
+returns-in-Ok-clause-did g c = (inr (rw c.bytes.ensures at c.decode_folder.ensures.did), refl)
 
 pub returns-in-Err-clause-did : goal.returns-in-Err-clause-did
-returns-in-Err-clause-did g c = (inl (refl, refl), (refl, refl))
+returns-in-Err-clause-did g c = (inl (refl, refl), refl)
 
 pub returns-in-Ok-clause-counts : goal.returns-in-Ok-clause-counts
 returns-in-Ok-clause-counts g c =

@@ -11,14 +11,14 @@ pub returns-in-Ok-clause-did : goal.returns-in-Ok-clause-did
 returns-in-Ok-clause-did g c = (
   in_room c.args.self.now.shown (asked_disk (asked_dumps c.args.self.now)) _ _ c.in-Ok.room.format c.show.result (ap (λ (room : RoomState). room.format) c.in-Ok.ensures)
       c.show.ensures.did,
-  (refl, refl),
+  refl,
 )
 
 pub returns-in-Ok-clause-counts : goal.returns-in-Ok-clause-counts
 returns-in-Ok-clause-counts g c = run-of-shelf true c.show.result c.show.ensures.no_source c.show.ensures.blames
 
 pub returns-in-Err-clause-did : goal.returns-in-Err-clause-did
-returns-in-Err-clause-did g c = (record { says = refl; stays = ([], none-failed _) }, (refl, refl))
+returns-in-Err-clause-did g c = (record { answer = tt; says = refl; keeps = ([], none-failed _) }, refl)
 
 pub returns-in-Err-clause-counts : goal.returns-in-Err-clause-counts
 returns-in-Err-clause-counts g c = memoryless true _ _ _ _

@@ -13,8 +13,7 @@ pub returns-in-Ok-clause-did : goal.returns-in-Ok-clause-did
 returns-in-Ok-clause-did g c =
     let is = c.in-Ok.ensures ∙ c.format.ensures.value in
     let e = c.from_g64-answer.ensures in (
-      file-ended _ _ _ _ c.end_of_file.result c.args.self.now.disk c.from_g64-answer.result _ _
-          (record { source = e.source_later; image = e.image_later; notes = e.notes_later }) (λ x told. file-reads e.needed)
+      file-ended _ _ _ c.end_of_file.result c.args.self.now.disk c.from_g64-answer.result _ _ e.notes_later (λ x told. file-reads e.needed)
           (rw is at e.read) e.cause c.end_of_file.ensures,
       refl,
     )
@@ -24,7 +23,7 @@ returns-in-Err-clause-did g c = (out_of_memory (from_g64_work (format_of c.args.
 
 pub returns-in-Ok-clause-counts : goal.returns-in-Ok-clause-counts
 returns-in-Ok-clause-counts g c =
-    run-of-source false c.end_of_file.result (no-shelf (returns-in-Ok-clause-did g c).0)
+    run-of-source false c.end_of_file.result (no-shelf (returns-in-Ok-clause-did g c).0 (λ never. never))
     (ends-blame source_blame refl refl _ c.end_of_file.result _ _ (file-blame c.from_g64-answer.result c.from_g64-answer.ensures.blames) c.end_of_file.ensures)
 
 pub returns-in-Err-clause-counts : goal.returns-in-Err-clause-counts

@@ -14,4 +14,4 @@ pub returns-clause-did : goal.returns-clause-did
 returns-clause-did g c = (rw c.plan_of-plan.ensures at c.decode_by_plan.ensures.does, refl)
 
 pub returns-clause-counts : goal.returns-clause-counts
-returns-clause-counts g c = run-of-source false c.decode_by_plan.result (no-shelf c.decode_by_plan.ensures.does) c.decode_by_plan.ensures.blames
+returns-clause-counts g c = run-of-source false c.decode_by_plan.result (no-shelf c.decode_by_plan.ensures.does (λ never. never)) c.decode_by_plan.ensures.blames

@@ -9,4 +9,4 @@ returns-clause-did g c = (rw c.end_of_writing.ensures (page-ended _ _ c.args.sel
 
 pub returns-clause-counts : goal.returns-clause-counts
 returns-clause-counts g c =
-    run-of-source false c.end_of_writing.result (no-shelf (returns-clause-did g c).0) (rw c.end_of_writing.ensures (written-blame c.write_page.result c.write_page.ensures.counts))
+    run-of-source false c.end_of_writing.result (no-shelf (returns-clause-did g c).0 (λ never. never)) (rw c.end_of_writing.ensures (written-blame c.write_page.result c.write_page.ensures.counts))

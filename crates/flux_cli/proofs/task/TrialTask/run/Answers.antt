@@ -19,7 +19,7 @@ returns-in-Err-clause-did g c = (out_of_memory (trial_work c.args.self.now.forma
 
 pub returns-in-Ok-clause-counts : goal.returns-in-Ok-clause-counts
 returns-in-Ok-clause-counts g c =
-    run-of-source false c.end_of_writing.result (no-shelf (returns-in-Ok-clause-did g c).0)
+    run-of-source false c.end_of_writing.result (no-shelf (returns-in-Ok-clause-did g c).0 (λ never. never))
     (rw c.end_of_writing.ensures (written-blame c.run_trial.result c.run_trial.ensures.2.counts))
 
 pub returns-in-Err-clause-counts : goal.returns-in-Err-clause-counts

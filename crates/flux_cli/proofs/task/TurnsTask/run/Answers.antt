@@ -11,7 +11,7 @@ pub returns-in-Err-clause-did : goal.returns-in-Err-clause-did
 returns-in-Err-clause-did g c = (out_of_memory turns_work tt _, refl)
 
 pub returns-in-Ok-clause-counts : goal.returns-in-Ok-clause-counts
-returns-in-Ok-clause-counts g c = run-of-source false c.print_turns.result (no-shelf c.print_turns.ensures.does) c.print_turns.ensures.blames
+returns-in-Ok-clause-counts g c = run-of-source false c.print_turns.result (no-shelf c.print_turns.ensures.does (λ never. never)) c.print_turns.ensures.blames
 
 pub returns-in-Err-clause-counts : goal.returns-in-Err-clause-counts
 returns-in-Err-clause-counts g c = memoryless false _ _ _ _

@@ -13,7 +13,7 @@ pub returns-in-Ok-clause-did : goal.returns-in-Ok-clause-did
 returns-in-Ok-clause-did g c =
     let format = c.args.self.now.format in
     let e = c.write_disk.ensures in (
-      image-ended _ _ _ _ c.end_of_image.result _ e.source_later e.sink_later (streams_of format) format
+      image-ended _ _ _ c.end_of_image.result _ (streams_of format) format
           (λ x told. image-reads format (rw c.in-Ok.ensures at e.needed)) c.write_disk.result (rw c.in-Ok.ensures at e.wrote) e.cause c.end_of_image.ensures,
       refl,
     )
@@ -23,7 +23,7 @@ returns-in-Err-clause-did g c = (out_of_memory (write_work c.args.self.now.forma
 
 pub returns-in-Ok-clause-counts : goal.returns-in-Ok-clause-counts
 returns-in-Ok-clause-counts g c =
-    run-of-source false c.end_of_image.result (no-shelf (returns-in-Ok-clause-did g c).0)
+    run-of-source false c.end_of_image.result (no-shelf (returns-in-Ok-clause-did g c).0 (λ never. never))
     (ends-blame source_blame refl refl _ c.end_of_image.result _ _ (image-blame c.write_disk.result (CountsBy-noteless _ _ c.write_disk.ensures.blames)) c.end_of_image.ensures)
 
 pub returns-in-Err-clause-counts : goal.returns-in-Err-clause-counts
