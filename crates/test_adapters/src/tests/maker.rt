@@ -76,7 +76,7 @@ fn over(
 fn folders_and_files_are_made_where_nothing_is(rt: HostRuntime) -> Result<(), Fail> {
     for (folder, answers, calls) in ROWS {
         let (told, lines) = over(rt.alloc(), folder, NONE, ErrorKind::Other)?;
-        assert_eq!(rt; (told, lines.as_str()), (*answers, *calls), "of {folder}");
+        assert_eq!(rt; (told, lines.as_str()), (answers, calls), "of {folder}");
     }
     Ok(())
 }
@@ -86,14 +86,14 @@ fn what_the_system_refuses_fails(rt: HostRuntime) -> Result<(), Fail> {
     for kind in FAULTS {
         // Making the folder, looking for the file, making it, writing to it.
         let fails = [
-            (Err(Failed), false, Some(Ok(3))),
-            (Ok(()), false, Some(Ok(3))),
-            (Ok(()), false, None),
-            (Ok(()), false, Some(Err(Failed))),
+            (0, (Err(Failed), false, Some(Ok(3)))),
+            (1, (Ok(()), false, Some(Ok(3)))),
+            (2, (Ok(()), false, None)),
+            (3, (Ok(()), false, Some(Err(Failed)))),
         ];
-        for (number, answers) in fails.iter().enumerate() {
-            let (told, _) = over(rt.alloc(), "new", number as u32, *kind)?;
-            assert_eq!(rt; told, *answers, "call {number} fails: {kind:?}");
+        for (number, answers) in fails {
+            let (told, _) = over(rt.alloc(), "new", number, kind)?;
+            assert_eq!(rt; told, answers, "call {number} fails: {kind:?}");
         }
     }
     Ok(())
