@@ -2,6 +2,7 @@
 use Rattle.std.proofs.Common.{◌≡◌, ◌≢◌, ◌≤◌, ℕ, ◌++◌, List, [], Option, Some, None, Result, Ok, Err, inl, inr, refl, sym, ap, ◌∙◌, subst, arith}
 use Rattle.flux_base.specs.declared.outside.Failed.{Failed}
 use Rattle.dump_reading.specs.Files.{ShelfNow}
+use Rattle.dump_reading.specs.Outcomes.{DumpDisk}
 use Rattle.flux_base.specs.Outside.{Rose}
 use Rattle.flux_base.specs.declared.status.Status.{Status}
 use Rattle.flux_base.specs.declared.status.Status.TheVariants.{AllGood, NotAllGood, Refused, Usage, ReadFault, ImageFault, NotesFault, Memory, ShelfFault}
@@ -16,53 +17,74 @@ use Rattle.flux_words.specs.G64Disks.{format_of}
 use Rattle.flux_words.specs.declared.commands.Output.{Output}
 use Rattle.flux_words.specs.declared.commands.Output.TheVariants.{ImageAndReport, ReportAlone, Picture}
 use Rattle.flux_words.specs.declared.commands.Way.TheVariants.{Once}
+use Rattle.flux_words.specs.declared.options.Shown.{Shown}
+use Rattle.flux_words.specs.declared.options.Shown.TheVariants.{Image, Picture as PictureShown}
 use Rattle.flux_cli.proofs.AskedWords.{asked_is, asked_keeps}
 use Rattle.flux_cli.proofs.Headlines.{Laws, of_g64, of_streams, of_trial, way_asked, IsAsked}
 use Rattle.flux_cli.proofs.ReadHeadline.{DumpLaws, of_read}
 use Rattle.flux_cli.specs.FolderRuns.{Began, DidBy, DoesFolder, RefusesMissing, over_shelf}
 use Rattle.flux_cli.specs.BytesWork.{BytesWork, of_bytes}
-use Rattle.flux_cli.specs.Runs.{Does, Finished, Says}
+use Rattle.flux_cli.specs.Runs.{Does, Finished, IsCut, Says, growth}
 use Rattle.flux_cli.specs.ShelfRuns.{DoesRow, Ran}
-use Rattle.flux_cli.specs.Promises.{Expected, OfFolder, Promises, known, known_bytes}
+use Rattle.flux_cli.specs.Promises.{Expected, OfFolder, Promises, by_sinks, known, known_bytes}
 use Rattle.flux_cli.specs.World.{InputMoment, World, as_source, on_shelf, on_source, Outside}
 use Rattle.flux_cli.specs.AskedDisks.{Keeps, asked_disk}
 use Rattle.flux_cli.specs.Headlines.{OfFile, OfShown, OfTrial}
 use Rattle.flux_cli.specs.ReadHeadline.{OfRead}
-use Rattle.flux_cli.specs.Work.{Outcome, Work}
+use Rattle.flux_cli.specs.Work.{Growth, Outcome, Work}
 use Rattle.flux_cli.specs.ShelfWork.{ends_over_shelf}
 use Rattle.flux_cli.specs.G64Work.{from_g64_work}
 use Rattle.flux_cli.specs.Works.{plan_of, row_for, row_of}
 use Rattle.flux_cli.specs.PlanWork.{planned_work}
-use Rattle.flux_cli.specs.ReadRuns.{read_work}
+use Rattle.flux_cli.specs.ReadRuns.{dumps_cut, read_work}
 use Rattle.flux_cli.proofs.ShelfEnded.{same-nothing}
 use Rattle.flux_cli.specs.TrialWork.{trial_work}
 
--- what is known of each outcome of some work, is known of what was done
-module _ {A V W N : Type 0} (work : Work V) (Known : (start now : V) → Outcome → Type 0) (before after : Outside A V W N)
-    (holds : (o : Outcome) → work.gives before.input.seen after.input.seen o → Known before.input.seen after.input.seen o) where
-  finished : (status : Status) → Finished work status before after → Finished (known work.ends Known) status before after
+-- what is known of each outcome of some work, and of what cuts it, is known of what was done
+module _ {A V W N : Type 0} (work : Work V) (cuts : Status → Type 0) (Known : (start now : V) → Outcome → Type 0) (before after : Outside A V W N)
+    (holds : (o : Outcome) → work.gives before.input.seen after.input.seen o → Known before.input.seen after.input.seen o)
+    (cut_so : (status : Status) (image notes : Growth) → work.ends status → work.cut status before.input.seen after.input.seen image notes → cuts status) where
+  finished : (status : Status) → Finished work status before after → Finished (known work.ends cuts Known) status before after
   finished status done = record { outcome = done.outcome; gives = holds done.outcome done.gives; status_is = done.status_is; image_got = done.image_got; notes_got = done.notes_got }
 
-  says : (status : Status) → Says work status before after → Says (known work.ends Known) status before after
-  says AllGood done = finished AllGood done
-  says NotAllGood done = finished NotAllGood done
-  says Refused done = finished Refused done
-  says Usage done = finished Usage done
-  says ReadFault cut = (tt, cut.1)
-  says ImageFault cut = (tt, cut.1)
-  says NotesFault cut = (tt, cut.1)
-  says Memory same = same
-  says ShelfFault cut = (inr tt, cut.1)
+  is_cut : (status : Status) → work.ends status → IsCut work status before after → cuts status
+  is_cut status ends cut = cut_so status (growth before.image after.image) (growth before.notes after.notes) ends cut
 
-  pub known-of : (status : Status) → Does work status before after → Does (known work.ends Known) status before after
-  known-of status did = record { answer = did.answer; says = says status did.says; keeps = tt }
+  says : (status : Status) → work.ends status → Says work status before after → Says (known work.ends cuts Known) status before after
+  says AllGood ends done = finished AllGood done
+  says NotAllGood ends done = finished NotAllGood done
+  says Refused ends done = finished Refused done
+  says Usage ends done = finished Usage done
+  says ReadFault ends cut = (is_cut ReadFault ends cut.0, cut.1)
+  says ImageFault ends cut = (is_cut ImageFault ends cut.0, cut.1)
+  says NotesFault ends cut = (is_cut NotesFault ends cut.0, cut.1)
+  says Memory ends same = same
+  says ShelfFault ends (inl done, rose) = (inl (finished ShelfFault done), rose)
+  says ShelfFault ends (inr cut, rose) = (inr (is_cut ShelfFault ends cut), rose)
+
+  pub known-of : (status : Status) → Does work status before after → Does (known work.ends cuts Known) status before after
+  known-of status did = record { answer = did.answer; says = says status did.answer did.says; keeps = tt }
+
+-- the reading of dumps is cut for the sake of a sink alone
+cut_by_sinks : (shown : Shown) (disk : DumpDisk) (start now : ShelfNow) (status : Status) (image notes : Growth) → dumps_cut shown disk status start now image notes → by_sinks status
+cut_by_sinks Image disk start now ShelfFault image notes cut = absurd cut
+cut_by_sinks PictureShown disk start now ShelfFault image notes cut = absurd cut
+cut_by_sinks shown disk start now AllGood image notes cut = tt
+cut_by_sinks shown disk start now NotAllGood image notes cut = tt
+cut_by_sinks shown disk start now Refused image notes cut = tt
+cut_by_sinks shown disk start now Usage image notes cut = tt
+cut_by_sinks shown disk start now ReadFault image notes cut = tt
+cut_by_sinks shown disk start now ImageFault image notes cut = tt
+cut_by_sinks shown disk start now NotesFault image notes cut = tt
+cut_by_sinks shown disk start now Memory image notes cut = tt
 
 -- and where it was known of the bytes that the source tells
 pub known-bytes : {S W N : Type 0} (work : BytesWork) (Known : List ℕ → Outcome → Type 0) → ((x : List ℕ) (o : Outcome) → work.gives x o → Known x o)
     → (before after : Outside S SourceMoment W N) (status : Status) → Does (of_bytes work) status before after → Does (known_bytes work Known) status before after
 known-bytes work Known holds before after status did =
-    known-of (of_bytes work) (λ start now o. (x : List ℕ) → start.left ≡ Some x → Known x o) before after
-    (λ o comes x told. subst (λ (y : List ℕ). Known y o) (sym (comes.input x told).0) (holds (comes.taken ++ comes.later) o comes.gives)) status did
+    known-of (of_bytes work) work.ends (λ start now o. (x : List ℕ) → start.left ≡ Some x → Known x o) before after
+    (λ o comes x told. subst (λ (y : List ℕ). Known y o) (sym (comes.input x told).0) (holds (comes.taken ++ comes.later) o comes.gives))
+    (λ fault image notes ends cut. ends) status did
 
 some_none : (n : ℕ) → Some n ≡ None → ⊥
 some_none n same = cc
@@ -70,7 +92,7 @@ some_none n same = cc
 -- `decode` of a folder's files: what was given over the shelf that `begin` left was given over it as it was before
 module _ (laws : Laws) {H W N : Type 0} (format : Format) (folder : List ℕ) (before after : Outside H ShelfNow W N) where
   abbrev Promised : Status → Type 0
-  Promised status = Does (known ends_over_shelf (OfFolder format folder)) status before after
+  Promised status = Does (known ends_over_shelf ends_over_shelf (OfFolder format folder)) status before after
 
   module _ (shelf : InputMoment H ShelfNow) (began : Began folder format (Ok None) before.input shelf) where
     abbrev begun : Outside H ShelfNow W N
@@ -78,7 +100,7 @@ module _ (laws : Laws) {H W N : Type 0} (format : Format) (folder : List ℕ) (b
 
     -- the files joined are what the shelf has to give
     decoded : (status : Status) → Finished (of_bytes (planned_work decoding ImageAndReport format)) status (as_source begun) (as_source after)
-        → Finished (known ends_over_shelf (OfFolder format folder)) status before after
+        → Finished (known ends_over_shelf ends_over_shelf (OfFolder format folder)) status before after
     decoded status done = record {
       outcome = done.outcome;
       gives = λ files told there.
@@ -159,8 +181,9 @@ module _ (laws : Laws) (dump_laws : DumpLaws) {S W N H : Type 0} (status : Statu
       (λ x o gives. of_shown laws x o (plan_of asked.way) asked.output asked.format (way_asked asked.way keeps) gives) (on_source before) (on_source after) status did.0
   expected (a_folder format folder) keeps did = folder-known laws format folder (on_shelf before) (on_shelf after) status did.0
   expected (some_dumps asked) keeps did =
-      known-of (read_work asked.shown (asked_disk asked)) (OfRead asked.shown (asked_disk asked)) (on_shelf before) (on_shelf after)
-      (of_read dump_laws asked.shown (asked_disk asked) (omega (arith, keeps.most)) before.shelf.seen after.shelf.seen) status did.0
+      known-of (read_work asked.shown (asked_disk asked)) by_sinks (OfRead asked.shown (asked_disk asked)) (on_shelf before) (on_shelf after)
+      (of_read dump_laws asked.shown (asked_disk asked) (omega (arith, keeps.most)) before.shelf.seen after.shelf.seen)
+      (λ fault image notes ends cut. cut_by_sinks asked.shown (asked_disk asked) before.shelf.seen after.shelf.seen fault image notes cut) status did.0
   expected (an_image_of_g64 disk) keeps did =
       known-bytes (from_g64_work (format_of disk)) (OfFile (format_of disk)) (λ x o gives. of_g64 laws x o disk gives.0 gives.1 gives.2) (on_source before) (on_source after) status did.0
   expected (a_trial format seed) keeps did =

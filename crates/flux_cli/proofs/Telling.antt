@@ -60,17 +60,17 @@ pub notes-later : (dumps : Bool) (status : Status) (before after : AllCounts) �
 notes-later dumps status before after counts = counts.notes.later
 
 -- what was known of work that a fault of the output cut, is known of it behind the line
-output-known : {A V W N : Type 0} (ends : Status → Type 0) (Known : (start now : V) → Outcome → Type 0) (before : Outside A V W N) (input : InputMoment A V) (image : Moment W) (left notes : Moment N)
-    → Does (known ends Known) ImageFault before (outside input image left) → Does (known ends Known) ImageFault before (outside input image notes)
-output-known ends Known before input image left notes did = record { answer = did.answer; says = did.says; keeps = did.keeps }
+output-known : {A V W N : Type 0} (ends cuts : Status → Type 0) (Known : (start now : V) → Outcome → Type 0) (before : Outside A V W N) (input : InputMoment A V) (image : Moment W) (left notes : Moment N)
+    → Does (known ends cuts Known) ImageFault before (outside input image left) → Does (known ends cuts Known) ImageFault before (outside input image notes)
+output-known ends cuts Known before input image left notes did = record { answer = did.answer; says = did.says; keeps = did.keeps }
 
 output_expected : {S W N H : Type 0} (before left : World S W N H) (notes : Moment N) (asked : Asked) → Expected asked ImageFault before left
     → Expected asked ImageFault before (with_notes notes left)
-output_expected before left notes (some_streams asked) did = output-known _ _ (on_source before) left.source left.image left.notes notes did
-output_expected before left notes (a_folder format folder) did = output-known _ _ (on_shelf before) left.shelf left.image left.notes notes did
-output_expected before left notes (some_dumps asked) did = output-known _ _ (on_shelf before) left.shelf left.image left.notes notes did
-output_expected before left notes (an_image_of_g64 disk) did = output-known _ _ (on_source before) left.source left.image left.notes notes did
-output_expected before left notes (a_trial format seed) did = output-known _ _ (on_source before) left.source left.image left.notes notes did
+output_expected before left notes (some_streams asked) did = output-known _ _ _ (on_source before) left.source left.image left.notes notes did
+output_expected before left notes (a_folder format folder) did = output-known _ _ _ (on_shelf before) left.shelf left.image left.notes notes did
+output_expected before left notes (some_dumps asked) did = output-known _ _ _ (on_shelf before) left.shelf left.image left.notes notes did
+output_expected before left notes (an_image_of_g64 disk) did = output-known _ _ _ (on_source before) left.source left.image left.notes notes did
+output_expected before left notes (a_trial format seed) did = output-known _ _ _ (on_source before) left.source left.image left.notes notes did
 output_expected before left notes the_turns did = tt
 output_expected before left notes (a_sector asked) did = tt
 output_expected before left notes (an_identity dump) did = tt

@@ -2,6 +2,7 @@
 use Rattle.std.specs.Prelude.{◌≡◌, ℕ, List, Some, None}
 use Rattle.dump_reading.specs.Files.{ShelfNow}
 use Rattle.flux_base.specs.declared.status.Status.{Status}
+use Rattle.flux_base.specs.declared.status.Status.TheVariants.{ShelfFault}
 use Rattle.flux_engine.specs.Plans.{decoding}
 use Rattle.kryo_stream.specs.Reads.{SourceMoment}
 use Rattle.sector_images.specs.declared.format.Format.{Format}
@@ -24,19 +25,27 @@ use Rattle.flux_cli.specs.Works.{plan_of}
 use Rattle.flux_cli.specs.World.{World, on_shelf, on_source}
 use Rattle.flux_words.specs.declared.commands.Output.TheVariants.{ImageAndReport}
 
--- a row of which this is known: what the input comes to, and nothing of where a fault cuts it
-abbrev pub known : {V : Type 0} → (Status → Type 0) → ((start now : V) → Outcome → Type 0) → Work V
-known ends Known = record {
+-- a row of which this is known: what the input comes to, and with which statuses a fault may
+-- cut it, but not where
+abbrev pub known : {V : Type 0} → (ends cuts : Status → Type 0)
+    → ((start now : V) → Outcome → Type 0) → Work V
+known ends cuts Known = record {
   ends = ends;
   gives = Known;
-  cut = λ status start now image notes. Unit {0};
+  cut = λ status start now image notes. cuts status;
   keeps = λ start now. Unit {0};
 }
+
+-- The reading of dumps is cut for the sake of a sink alone: files that fail cut nothing, and all
+-- else is read and given.
+abbrev pub by_sinks : Status → Type 0
+by_sinks ShelfFault = ⊥
+by_sinks _ = Unit {0}
 
 -- whatever bytes the source tells
 abbrev pub known_bytes : BytesWork → ((x : List ℕ) → Outcome → Type 0) → Work SourceMoment
 known_bytes work Known =
-    known work.ends (λ start now o. (x : List ℕ) → start.left ≡ Some x → Known x o)
+    known work.ends work.ends (λ start now o. (x : List ℕ) → start.left ≡ Some x → Known x o)
 
 -- all that is promised of `decode`, of `decode-folder`, where no file of the folder is missing:
 -- whatever files the shelf tells
@@ -59,7 +68,8 @@ Expected (some_streams asked) status before after =
     (OfShown (plan_of asked.way) asked.output asked.format)) status
     (on_source before) (on_source after)
 Expected (a_folder format folder) status before after =
-    Does (known ends_over_shelf (OfFolder format folder)) status (on_shelf before) (on_shelf after)
+    Does (known ends_over_shelf ends_over_shelf (OfFolder format folder)) status
+    (on_shelf before) (on_shelf after)
 -- Of `read`: each sector's line and its bytes are those that all readings of the dumps bear out,
 -- and each line that has the text of a sector's line, or of a stream's that is passed over, is that
 -- one. All is good exactly where each sector is and no file that was looked at has, at any place, a
@@ -69,7 +79,7 @@ Expected (a_folder format folder) status before after =
 -- other files are captures too or passed over and the drives kept their speed. A picture of them is
 -- that of such a report.
 Expected (some_dumps asked) status before after =
-    Does (known ends_over_shelf (OfRead asked.shown (asked_disk asked))) status
+    Does (known ends_over_shelf by_sinks (OfRead asked.shown (asked_disk asked))) status
     (on_shelf before) (on_shelf after)
 -- A file that was written of an image comes back by `from-g64`.
 Expected (an_image_of_g64 disk) status before after =
