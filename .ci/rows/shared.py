@@ -17,9 +17,10 @@ SHORT = index_block(0, 0, 0) + b"\x60\x60" + index_block(2, 5, 24) + b"\r\x03\x0
 @dataclasses.dataclass
 class Row:
     """A run of the program: its words, what it reads on standard input, its exit code, the bytes that standard output and standard error have to have, and
-    the files of the folder in which it runs, by their paths.
+    the files of the folder in which it runs, by their paths, and all that lies there at the end: None for folders, paths for links.
 
-    What it reads and the files may be functions of the program. Where bytes are None, `also` alone looks at them: it says of both what is wrong, or nothing."""
+    What it reads, the files and the bound may be functions of the program. Where bytes are None, `also` alone looks at them: it says of both what is wrong, or nothing.
+    No file may get more than so many bytes, and in a locked folder nobody may make anything."""
     name: str
     words: list
     given: object
@@ -28,6 +29,14 @@ class Row:
     errors: object = b""
     also: object = None
     files: object = ()
+    left: object = None
+    most: object = None
+    locked: object = None
+
+    def of(self, program):
+        """The row with what is a function of the program."""
+        made = {name: getattr(self, name) for name in ("given", "files", "left", "most")}
+        return dataclasses.replace(self, **{name: part(program) for name, part in made.items() if callable(part)})
 
 
 # Rings and streams
@@ -152,7 +161,7 @@ def track_file(folder, cylinder, head):
 
 def files_of(folder, word, streams):
     """A file for each track of a disk."""
-    return {track_file(folder, *track): stream for track, stream in zip(plain.FORMATS[word].tracks, streams, strict=True)}
+    return {track_file(folder, *track): stream for track, stream in zip(plain.FORMATS.get(word).tracks, streams, strict=True)}
 
 
 def pc_verdicts():
