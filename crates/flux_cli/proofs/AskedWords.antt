@@ -2,7 +2,7 @@
 use Rattle.std.proofs.Common.{◌≡◌, ℕ, List, [], ◌∷◌, Option, Some, None, inl, inr, sym, ap, subst, arith}
 use Rattle.flux_help.specs.Verbs.{verb_of}
 use Rattle.flux_help.specs.declared.verb.Verb.{Verb}
-use Rattle.flux_help.specs.declared.verb.Verb.TheVariants.{Identify, Read, Show, DecodeFolder, DecodeSet, Rescue, Decode, Report, Map, Write, Turns, ToG64, FromG64, Trial, Help}
+use Rattle.flux_help.specs.declared.verb.Verb.TheVariants.{Identify, Info, Read, Show, DecodeFolder, DecodeSet, Rescue, Decode, Report, Map, Write, Turns, ToG64, FromG64, Trial, Help}
 use Rattle.flux_words.specs.Asked.{Asked}
 use Rattle.flux_words.specs.CommandWords.{AreBehind, AreByVerb, AreWordsOf, AskFor, AskOnce}
 use Rattle.flux_words.specs.SectorWords.{ArePlaceWords, AskedSector}
@@ -33,7 +33,8 @@ module _ (others : List (List ℕ)) (asked : Asked) where
   keeps_behind DecodeFolder p = subst Keeps (sym p.4) tt
   keeps_behind Read p = subst Keeps (sym p.2) p.1.are.can
   keeps_behind Show p = subst Keeps (sym p.2) (placed p.0 p.1.rest p.1.are)
-  keeps_behind Identify p = subst Keeps (sym p.3) tt
+  keeps_behind Identify p = subst Keeps (sym p.2) tt
+  keeps_behind Info p = subst Keeps (sym p.2) tt
   keeps_behind Write p = subst Keeps (sym p.2) tt
   keeps_behind Trial p = subst Keeps (sym p.5) tt
   keeps_behind ToG64 p = subst Keeps (sym p.2) tt
@@ -52,7 +53,8 @@ module _ (others : List (List ℕ)) (asked : Asked) where
   over_behind DecodeFolder p = ap over_dumps (sym p.4)
   over_behind Read p = ap over_dumps (sym p.2)
   over_behind Show p = ap over_dumps (sym p.2)
-  over_behind Identify p = ap over_dumps (sym p.3)
+  over_behind Identify p = ap over_dumps (sym p.2)
+  over_behind Info p = ap over_dumps (sym p.2)
   over_behind Write p = ap over_dumps (sym p.2)
   over_behind Trial p = ap over_dumps (sym p.5)
   over_behind ToG64 p = ap over_dumps (sym p.2)

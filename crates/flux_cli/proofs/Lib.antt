@@ -14,6 +14,7 @@ pub mod FolderRun
 pub mod ShelfEnded
 pub mod ReadRun
 pub mod IdentityRun
+pub mod InfoRun
 pub mod SectorRun
 pub mod ReadHeadline
 pub mod Often

@@ -9,8 +9,8 @@ use Rattle.flux_base.specs.declared.status.Status.TheVariants.{ReadFault, ImageF
 use Rattle.flux_base.specs.declared.status.Status.TheVariants.{ShelfFault}
 use Rattle.flux_help.specs.Verbs.{verb_of}
 use Rattle.flux_help.specs.declared.verb.Verb.{Verb}
-use Rattle.flux_help.specs.declared.verb.Verb.TheVariants.{Identify, Read, Show}
-use Rattle.flux_words.specs.Asked.{Asked, some_dumps, a_sector, an_identity}
+use Rattle.flux_help.specs.declared.verb.Verb.TheVariants.{Identify, Info, Read, Show}
+use Rattle.flux_words.specs.Asked.{Asked, some_dumps, a_sector, an_identity, told_files}
 use Rattle.flux_cli.specs.World.{World}
 
 abbrev pub source_blame : Status → Blame
@@ -30,12 +30,14 @@ shelf_blame _ = no_one
 abbrev pub over_dumps : Asked → Bool
 over_dumps (some_dumps asked) = true
 over_dumps (an_identity dump) = true
+over_dumps (told_files dump) = true
 over_dumps (a_sector asked) = true
 over_dumps _ = false
 
 abbrev pub verb_over_dumps : Option Verb → Bool
 verb_over_dumps (Some Read) = true
 verb_over_dumps (Some Identify) = true
+verb_over_dumps (Some Info) = true
 verb_over_dumps (Some Show) = true
 verb_over_dumps _ = false
 

@@ -1,7 +1,7 @@
 -- What `identify` does: the files of a dump are read on the shelf as
 -- those of each disk, one by one.
 use Rattle.std.proofs.Common.{inr}
-use Rattle.std.specs.Prelude.{◌≡◌, ◌⊎◌, ℕ, List, [], ◌∷◌, if◌then◌else◌, Option, Some, None}
+use Rattle.std.specs.Prelude.{◌≡◌, ◌⊎◌, ℕ, List, [], if◌then◌else◌, Option, Some, None}
 use Rattle.dump_identity.specs.Findings.{is_complete}
 use Rattle.dump_identity.specs.Laws.{FailedAlikeInAll}
 use Rattle.dump_identity.specs.Outcomes.{HasNoFiles, Identified, IsIdentified, WroteIntoBest}
@@ -12,7 +12,7 @@ use Rattle.dump_reading.specs.Files.{ShelfNow}
 use Rattle.flux_base.specs.declared.status.Status.{Status}
 use Rattle.flux_base.specs.declared.status.Status.TheVariants.{AllGood, NotAllGood, ImageFault}
 use Rattle.flux_base.specs.declared.status.Status.TheVariants.{NotesFault, ShelfFault}
-use Rattle.flux_cli.specs.ShelfWork.{TellsEmpty, dumps_work, empty_outcome}
+use Rattle.flux_cli.specs.ShelfWork.{OneEmpty, dumps_work, empty_outcome}
 use Rattle.flux_cli.specs.Work.{Growth, Outcome, GotNothing, GotPart, Work}
 
 -- whether one disk explains all of the dump
@@ -28,10 +28,8 @@ abbrev pub identity_outcome : Identified → Outcome
 identity_outcome o = record { status = identity_status o.identity; image = o.lines; notes = [] }
 
 -- the dump has no file of any disk's tracks, and the line on it
-pub record EmptyDump (dump : List ℕ) (start now : ShelfNow) (line : List ℕ) : Type 0 where
-  pub is : HasNoFiles dump start now
-  pub still : now ≡ start
-  pub tells : TellsEmpty start.told.files (dump ∷ []) 0 line
+abbrev pub EmptyDump : (dump : List ℕ) → (start now : ShelfNow) → (line : List ℕ) → Type 0
+EmptyDump dump start now line = OneEmpty (HasNoFiles dump start now) dump start now line
 
 -- what the dump comes to, by the files that are told, and what the shelf did
 abbrev pub IsOutcomeOfDump : (dump : List ℕ) → (start now : ShelfNow) → Outcome → Type 0

@@ -18,6 +18,7 @@ pub mod ShelfWork
 pub mod ReadRuns
 pub mod SectorRuns
 pub mod IdentityRuns
+pub mod InfoRuns
 pub mod Endings
 pub mod ShelfRuns
 pub mod OutputTold

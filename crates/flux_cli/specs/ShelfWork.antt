@@ -1,6 +1,7 @@
 -- What commands over dumps on the shelf have in common: the shelf stays, and a dump that has none
 -- of the wanted files is refused.
-use Rattle.std.specs.Prelude.{◌≡◌, ◌⊎◌, ◌<◌, ℕ, List, [], get_or, length, Option, Some, None}
+use Rattle.std.specs.Prelude.{◌≡◌, ◌⊎◌, ◌<◌, ℕ, List, [], ◌∷◌, get_or, length, Option, Some}
+use Rattle.std.specs.Prelude.{None}
 use Rattle.dump_reading.specs.Files.{ShelfNow}
 use Rattle.dump_reading.specs.Outcomes.{DumpDisk, IsToldEmpty}
 use Rattle.flux_base.specs.declared.status.Status.{Status}
@@ -49,6 +50,14 @@ pub record FirstEmpty (disk : DumpDisk) (told : Option (List File)) (line : List
   pub low : number < length disk.dumps
   pub is : IsToldEmpty disk told (Some number)
   pub tells : TellsEmpty told disk.dumps number line
+
+-- the one dump of a command has none of the files that it looks for, and nothing was read; the line
+-- on it
+pub record OneEmpty (HasNone : Type 0) (dump : List ℕ) (start now : ShelfNow)
+    (line : List ℕ) : Type 0 where
+  pub is : HasNone
+  pub still : now ≡ start
+  pub tells : TellsEmpty start.told.files (dump ∷ []) 0 line
 
 -- The first of the dumps that has none of the disk's files is refused, and none is read; where each
 -- has one, the outcome is one of these.

@@ -5,6 +5,7 @@ ghost use Rattle.std.specs.Prelude.{◌≡◌, [], get_or};
 ghost use Rattle.flux_cli.specs.Endings.{EndsBy, EndsDumps, EndsFault, file_ending, image_ending, plan_ending, refusal};
 ghost use Rattle.flux_cli.specs.Endings.{refuses, written_status};
 ghost use Rattle.flux_cli.specs.IdentityRuns.{identity_status};
+ghost use Rattle.flux_cli.specs.InfoRuns.{info_status};
 ghost use Rattle.flux_cli.specs.PlanWork.{status_of as totals_status};
 ghost use Rattle.flux_cli.specs.ReadRuns.{read_status};
 ghost use Rattle.flux_cli.specs.SectorRuns.{sector_status};
@@ -16,6 +17,7 @@ use crate::planned::stop_line;
 use crate::read::status_of as status_of_dumps;
 use dump_identity::Identity;
 use dump_reading::{DumpTotals, NoFiles};
+use dump_turns::TurnTotals;
 use flux_base::{Failed, Sink, Status, Word};
 use flux_engine::{RefusedCapture, Stopped, WriteFault};
 use g64_image::{G64Fault, g64_line};
@@ -169,6 +171,35 @@ pub(crate) fn end_of_identity<H: Shelf, N: Sink>(
     match answer {
         Ok(identity) => status_of_identity(&identity),
         Err(fault) => end_of_fault(fault, dumps, shelf, notes),
+    }
+}
+
+/// Ends a dump of which is told what its files tell without any format.
+pub(crate) fn end_of_info<H: Shelf, N: Sink>(
+    answer: Result<TurnTotals, Stopped<NoFiles>>,
+    dumps: &[Word],
+    shelf: &H,
+    notes: &mut N,
+) -> Status
+    ensures { EndsDumps (H.files shelf.now) dumps.now info_status answer result (sink_at N.Sink notes.old)
+        (sink_at N.Sink notes.new) }
+{
+    match answer {
+        Ok(totals) => status_of_info(&totals),
+        Err(fault) => end_of_fault(fault, dumps, shelf, notes),
+    }
+}
+
+/// Whether a file failed, and else whether each is there, was read and turned as the others did.
+fn status_of_info(totals: &TurnTotals) -> Status
+    ensures { result ≡ info_status totals.now }
+{
+    if totals.failed > 0 {
+        Status::ShelfFault
+    } else if totals.refused == 0 && totals.missing == 0 && totals.uneven == 0 {
+        Status::AllGood
+    } else {
+        Status::NotAllGood
     }
 }
 

@@ -5,6 +5,7 @@ ghost use Rattle.dump_reading.specs.Files.{ShelfNow};
 ghost use Rattle.dump_reading.specs.Outcomes.{DumpDisk};
 ghost use Rattle.flux_cli.specs.ReadRuns.{FailedAsRead, IsOutcomeOfDumps};
 ghost use Rattle.flux_cli.specs.IdentityRuns.{FailedAsIdentified, IsOutcomeOfDump};
+ghost use Rattle.flux_cli.specs.InfoRuns.{FailedAsTold, IsOutcomeOfInfo};
 ghost use Rattle.flux_cli.specs.SectorRuns.{FailedAsShown, IsOutcomeOfSector, ReadingsOfShown};
 ghost use Rattle.flux_cli.specs.Work.{Outcome};
 ghost use Rattle.flux_cli.specs.Works.{IsOutcome};
@@ -44,6 +45,16 @@ pub fn identity_outcomes_are_one()
         → FailedAsIdentified dump start now start' now' a b p q → a ≡ b }
 {
     dump_identity::identities_are_one()
+}
+
+/// A dump, the files on the shelf, and which of them failed, decide the outcome of `info`: there is one at most.
+pub fn info_outcomes_are_one()
+    ensures { (dump : List ℕ) (files : List File) (start now start' now' : ShelfNow) → start.told.files ≡ Some files
+        → start'.told.files ≡ Some files
+        → (a b : Outcome) (p : IsOutcomeOfInfo dump start now a) (q : IsOutcomeOfInfo dump start' now' b)
+        → FailedAsTold dump start now start' now' a b p q → a ≡ b }
+{
+    dump_turns::turns_are_one()
 }
 
 /// Where the streams of a sector's track have lists of all that can be read in them, which reading them makes, what is

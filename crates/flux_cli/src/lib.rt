@@ -16,7 +16,8 @@ mod task;
 mod turns;
 
 pub use laws::{
-    identity_outcomes_are_one, outcomes_are_one, read_outcomes_are_one, sector_outcomes_are_one,
+    identity_outcomes_are_one, info_outcomes_are_one, outcomes_are_one, read_outcomes_are_one,
+    sector_outcomes_are_one,
 };
 pub use program::run;
 pub use std_streams::{StdShelf, StdSink, StdSource};

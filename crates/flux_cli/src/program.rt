@@ -6,7 +6,7 @@ ghost use Rattle.flux_cli.specs.ShelfRuns.{Ran};
 ghost use Rattle.flux_cli.specs.World.{world_at};
 
 use crate::output_told::tell_output;
-use crate::shelf_task::{DecodeFolder, Identify};
+use crate::shelf_task::{DecodeFolder, Identify, Info};
 use crate::task::{FromG64, Task, Tell, ToG64, Trial, Turns, Write};
 use disk_map::dumps_are_drawn_as_reported;
 use flux_base::{Sink, Source, Status, Word};
@@ -100,6 +100,7 @@ fn run_words<S: Source, W: Sink, N: Sink, H: Shelf>(
         Some(Command::Dumps(asked)) => asked.run(alloc, source, image, notes, shelf),
         Some(Command::Sector(asked)) => asked.run(alloc, source, image, notes, shelf),
         Some(Command::Identify(dump)) => Identify { dump }.run(alloc, source, image, notes, shelf),
+        Some(Command::Info(dump)) => Info { dump }.run(alloc, source, image, notes, shelf),
         Some(Command::Write(format)) => Write { format }.run(alloc, source, image, notes, shelf),
         Some(Command::Trial(format, seed)) => {
             Trial { format, seed }.run(alloc, source, image, notes, shelf)

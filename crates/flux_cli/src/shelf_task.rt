@@ -1,15 +1,16 @@
 //! Each command over the shelf.
 
-ghost use Rattle.flux_words.specs.Asked.{a_folder, a_sector, an_identity, some_dumps};
+ghost use Rattle.flux_words.specs.Asked.{a_folder, a_sector, an_identity, some_dumps, told_files};
 ghost use Rattle.flux_words.specs.DumpWords.{asked_dumps};
 ghost use Rattle.flux_words.specs.SectorWords.{asked_sector};
 
-use crate::endings::{end_of_identity, end_of_sector};
+use crate::endings::{end_of_identity, end_of_info, end_of_sector};
 use crate::folder::decode_folder;
 use crate::read::show;
 use crate::task::Task;
 use dump_identity::{IdentityRoom, identify};
 use dump_reading::Dumps;
+use dump_turns::{TurnsRoom, tell_turns};
 use flux_base::{Memory, Sink, Source, Status, Word};
 use flux_engine::DiskRoom;
 use flux_words::{DumpsAsked, ShowAsked};
@@ -95,6 +96,34 @@ impl<S: Source, W: Sink, N: Sink, H: Shelf> Task<S, W, N, H> for Identify<'_> {
             Ok(room) => {
                 let answer = identify(self.dump, room, shelf, image);
                 end_of_identity(answer, from_ref(self.dump), shelf, notes)
+            }
+            Err(Memory) => Status::Memory,
+        }
+    }
+}
+
+/// Tells what the files of a dump tell without any format: the lines go to `image`. Notes say that it has no file of
+/// any track.
+#[derive(Clone, Copy)]
+pub(crate) struct Info<'a> {
+    pub(crate) dump: &'a Word,
+}
+
+impl<S: Source, W: Sink, N: Sink, H: Shelf> Task<S, W, N, H> for Info<'_> {
+    ghost asked = { λ task. told_files task.dump.now };
+
+    fn run(
+        &self,
+        alloc: Global,
+        _source: &mut S,
+        image: &mut W,
+        notes: &mut N,
+        shelf: &mut H,
+    ) -> Status {
+        match TurnsRoom::reserve(alloc) {
+            Ok(room) => {
+                let answer = tell_turns(self.dump, room, shelf, image);
+                end_of_info(answer, from_ref(self.dump), shelf, notes)
             }
             Err(Memory) => Status::Memory,
         }

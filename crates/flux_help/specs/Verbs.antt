@@ -4,24 +4,25 @@ use Rattle.std.specs.Prelude.{ℕ, List, [], ◌∷◌, Bool, true, false, codes
 use Rattle.std.specs.List.{position_from, slice_get}
 use Rattle.std.specs.Option.{option_and_then}
 use Rattle.std.specs.Str.{bytes_eq}
-use Rattle.flux_help.specs.declared.verb.TheConstants.{IDENTIFY, READ, SHOW, DECODE_FOLDER}
+use Rattle.flux_help.specs.declared.verb.TheConstants.{IDENTIFY, INFO, READ, SHOW, DECODE_FOLDER}
 use Rattle.flux_help.specs.declared.verb.TheConstants.{DECODE_SET, RESCUE, DECODE, REPORT, MAP}
 use Rattle.flux_help.specs.declared.verb.TheConstants.{WRITE, TURNS, TO_G64, FROM_G64, TRIAL, HELP}
 use Rattle.flux_help.specs.declared.verb.Texts.{Texts}
 use Rattle.flux_help.specs.declared.verb.Verb.{Verb}
-use Rattle.flux_help.specs.declared.verb.Verb.TheVariants.{Identify, Read, Show, DecodeFolder}
+use Rattle.flux_help.specs.declared.verb.Verb.TheVariants.{Identify, Info, Read, Show, DecodeFolder}
 use Rattle.flux_help.specs.declared.verb.Verb.TheVariants.{DecodeSet, Rescue, Decode, Report, Map}
 use Rattle.flux_help.specs.declared.verb.Verb.TheVariants.{Write, Turns, ToG64, FromG64, Trial}
 use Rattle.flux_help.specs.declared.verb.Verb.TheVariants.{Help}
 
 -- all commands, in the order in which the help lists them
 abbrev pub verbs : List Verb
-verbs = Identify ∷ Read ∷ Show ∷ DecodeFolder ∷ DecodeSet ∷ Rescue ∷ Decode ∷ Report ∷ Map ∷ Write
-    ∷ Turns ∷ ToG64 ∷ FromG64 ∷ Trial ∷ Help ∷ []
+verbs = Identify ∷ Info ∷ Read ∷ Show ∷ DecodeFolder ∷ DecodeSet ∷ Rescue ∷ Decode ∷ Report ∷ Map
+    ∷ Write ∷ Turns ∷ ToG64 ∷ FromG64 ∷ Trial ∷ Help ∷ []
 
 -- its first word
 unfoldable pub verb_word : Verb → List ℕ
 verb_word Identify = codes "identify"
+verb_word Info = codes "info"
 verb_word Read = codes "read"
 verb_word Show = codes "show"
 verb_word DecodeFolder = codes "decode-folder"
@@ -40,6 +41,7 @@ verb_word Help = codes "help"
 -- what is said of it, as the code has it
 unfoldable pub verb_texts : Verb → Texts (record { now : List ℕ })
 verb_texts Identify = IDENTIFY
+verb_texts Info = INFO
 verb_texts Read = READ
 verb_texts Show = SHOW
 verb_texts DecodeFolder = DECODE_FOLDER
@@ -65,6 +67,7 @@ verb_of word = option_and_then (slice_get verbs) (position_from (has_word word) 
 -- the usage line does not name the command
 abbrev pub is_own : Verb → Bool
 is_own Identify = true
+is_own Info = true
 is_own Read = true
 is_own Show = true
 is_own Rescue = true
@@ -76,6 +79,7 @@ is_own _ = false
 -- may be the number of a content
 abbrev pub asks_format : Verb → Bool
 asks_format Identify = false
+asks_format Info = false
 asks_format Show = false
 asks_format Turns = false
 asks_format Help = false

@@ -8,6 +8,8 @@ ghost use Rattle.flux_help.specs.Verbs.{asks_format, has_word, is_own, verb_of, 
 pub enum Verb {
     /// Which disk a dump is of.
     Identify,
+    /// What the files of a dump tell without any format.
+    Info,
     /// The files of several dumps to an image.
     Read,
     /// What dumps have of one sector.
@@ -39,8 +41,9 @@ pub enum Verb {
 }
 
 /// All commands, in the order in which the help lists them.
-const VERBS: [Verb; 15] = [
+const VERBS: [Verb; 16] = [
     Verb::Identify,
+    Verb::Info,
     Verb::Read,
     Verb::Show,
     Verb::DecodeFolder,
@@ -88,6 +91,20 @@ that is all of the dump.
 
 Example:
    flux identify dump
+",
+};
+
+const INFO: Texts<&str> = Texts {
+    word: "info",
+    line: "   info DUMP                    what each file of a dump tells without a format: how fast it turned\n",
+    usage: "usage: flux info DUMP\n",
+    about: "
+Tells of each file of a dump its bytes and transitions, how many revolutions it has, the ticks of the shortest, of their mean
+and of the longest, and how many there are a minute. A file whose mean is off the median by more than five in a thousand is
+uneven: it is of another dump, drive or machine. The exit code is 0 where no file is missing, refused or uneven.
+
+Example:
+   flux info dump
 ",
 };
 
@@ -299,7 +316,13 @@ impl Verb {
     {
         matches!(
             self,
-            Verb::Identify | Verb::Read | Verb::Show | Verb::Rescue | Verb::Map | Verb::Help
+            Verb::Identify
+                | Verb::Info
+                | Verb::Read
+                | Verb::Show
+                | Verb::Rescue
+                | Verb::Map
+                | Verb::Help
         )
     }
 
@@ -308,7 +331,10 @@ impl Verb {
     pub(crate) fn asks_format(self) -> bool
         ensures { result ≡ asks_format self }
     {
-        !matches!(self, Verb::Identify | Verb::Show | Verb::Turns | Verb::Help)
+        !matches!(
+            self,
+            Verb::Identify | Verb::Info | Verb::Show | Verb::Turns | Verb::Help
+        )
     }
 
     /// What is said of it.
@@ -321,6 +347,7 @@ impl Verb {
     {
         match self {
             Verb::Identify => IDENTIFY,
+            Verb::Info => INFO,
             Verb::Read => READ,
             Verb::Show => SHOW,
             Verb::DecodeFolder => DECODE_FOLDER,

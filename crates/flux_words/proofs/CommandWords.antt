@@ -5,10 +5,10 @@ use Rattle.flux_help.specs.Verbs.{verb_of}
 use Rattle.flux_help.specs.declared.page.Page.{Page}
 use Rattle.flux_help.specs.declared.page.Page.TheVariants.{Help as AllPages, Version, About}
 use Rattle.flux_help.specs.declared.verb.Verb.{Verb}
-use Rattle.flux_help.specs.declared.verb.Verb.TheVariants.{Identify, Read, Show, DecodeFolder, DecodeSet, Rescue, Decode, Report, Map, Write, Turns, ToG64, FromG64, Trial, Help}
+use Rattle.flux_help.specs.declared.verb.Verb.TheVariants.{Identify, Info, Read, Show, DecodeFolder, DecodeSet, Rescue, Decode, Report, Map, Write, Turns, ToG64, FromG64, Trial, Help}
 use Rattle.sector_images.specs.Formats.{WordsBeginWithLetters, WordsNameFormats}
 use Rattle.sector_images.specs.declared.format.Format.{Format}
-use Rattle.flux_words.specs.Asked.{Asked, a_folder, some_dumps, a_sector, an_identity, written_streams, a_trial, a_g64_file, an_image_of_g64, a_page}
+use Rattle.flux_words.specs.Asked.{Asked, a_folder, some_dumps, a_sector, an_identity, told_files, written_streams, a_trial, a_g64_file, an_image_of_g64, a_page}
 use Rattle.flux_words.specs.CommandWords.{AreBehind, AreByVerb, AreStreams, AskFor, AskOnce, IsDashed, IsFormat, IsFormatWith, IsPageWord, streams_of}
 use Rattle.flux_words.specs.DumpWords.{AreDiskWords, dump_options}
 use Rattle.flux_words.specs.G64Disks.{format_of}
@@ -82,7 +82,8 @@ module _ (names : WordsNameFormats) (letters : WordsBeginWithLetters) where
         p.4 ∙ ap (λ (f : Format). a_folder f p.1) (same_format_with p.0 q.0 p.1 q.1 p.2 q.2) ∙ ap (a_folder q.0) (same_last p.0 q.0 p.1 q.1 p.2 q.2) ∙ sym q.4
     one_behind Read a b p q = p.2 ∙ ap some_dumps (one-named dump_options AreDiskWords (disk-past letters) (λ c d ws. one-disk names c d ws) others p.0 q.0 p.1 q.1) ∙ sym q.2
     one_behind Show a b p q = p.2 ∙ ap a_sector (one-named sector_options ArePlaceWords (place-past letters) (λ c d ws. one-place names c d ws) others p.0 q.0 p.1 q.1) ∙ sym q.2
-    one_behind Identify a b p q = p.3 ∙ ap an_identity (head-same _ _ _ _ (sym p.1 ∙ q.1)) ∙ sym q.3
+    one_behind Identify a b p q = p.2 ∙ ap an_identity (head-same _ _ _ _ (sym p.1.0 ∙ q.1.0)) ∙ sym q.2
+    one_behind Info a b p q = p.2 ∙ ap told_files (head-same _ _ _ _ (sym p.1.0 ∙ q.1.0)) ∙ sym q.2
     one_behind Write a b p q = p.2 ∙ ap written_streams (same_format p.0 q.0 p.1 q.1) ∙ sym q.2
     one_behind Trial a b p q =
         let seed : p.2 ≡ q.2 = sym p.4.value ∙ ap (digits_value 10) (same_last p.0 q.0 p.1 q.1 p.3 q.3) ∙ q.4.value in

@@ -6,8 +6,8 @@ use Rattle.flux_words.specs.DumpWords.{AskedDumps, asked_dumps}
 use Rattle.flux_words.specs.SectorWords.{AskedSector, asked_sector}
 use Rattle.flux_words.specs.declared.commands.Command.{Command}
 use Rattle.flux_words.specs.declared.commands.Command.TheVariants.{Turns, Streams, Folder, Dumps}
-use Rattle.flux_words.specs.declared.commands.Command.TheVariants.{Sector, Identify, Write, Trial}
-use Rattle.flux_words.specs.declared.commands.Command.TheVariants.{ToG64, FromG64, Tell}
+use Rattle.flux_words.specs.declared.commands.Command.TheVariants.{Sector, Identify, Info, Write}
+use Rattle.flux_words.specs.declared.commands.Command.TheVariants.{Trial, ToG64, FromG64, Tell}
 use Rattle.flux_words.specs.declared.commands.StreamsAsked.{StreamsAsked}
 use Rattle.flux_words.specs.declared.g64_disk.G64Disk.{G64Disk}
 
@@ -24,6 +24,8 @@ pub data Asked : Type 0 where
   a_sector : AskedSector → Asked
   -- which disk a dump is of
   an_identity : (dump : List ℕ) → Asked
+  -- what the files of a dump tell without any format
+  told_files : (dump : List ℕ) → Asked
   -- the streams of an image
   written_streams : Format → Asked
   a_trial : Format → (seed : ℕ) → Asked
@@ -40,6 +42,7 @@ asked_of (Folder format folder) = a_folder format folder.now
 asked_of (Dumps asked) = some_dumps (asked_dumps asked)
 asked_of (Sector asked) = a_sector (asked_sector asked)
 asked_of (Identify dump) = an_identity dump.now
+asked_of (Info dump) = told_files dump.now
 asked_of (Write format) = written_streams format
 asked_of (Trial format seed) = a_trial format seed
 asked_of (ToG64 disk) = a_g64_file disk

@@ -4,14 +4,14 @@ use Rattle.flux_help.specs.Verbs.{verb_of}
 use Rattle.flux_help.specs.declared.page.Page.{Page}
 use Rattle.flux_help.specs.declared.page.Page.TheVariants.{Help as AllPages, Version, About}
 use Rattle.flux_help.specs.declared.verb.Verb.{Verb}
-use Rattle.flux_help.specs.declared.verb.Verb.TheVariants.{Identify, Read, Show, DecodeFolder}
+use Rattle.flux_help.specs.declared.verb.Verb.TheVariants.{Identify, Info, Read, Show, DecodeFolder}
 use Rattle.flux_help.specs.declared.verb.Verb.TheVariants.{DecodeSet, Rescue, Decode, Report, Map}
 use Rattle.flux_help.specs.declared.verb.Verb.TheVariants.{Write, Turns, ToG64, FromG64, Trial}
 use Rattle.flux_help.specs.declared.verb.Verb.TheVariants.{Help}
 use Rattle.sector_images.specs.Formats.{IsWordOfFormat}
 use Rattle.sector_images.specs.declared.format.Format.{Format}
 use Rattle.flux_words.specs.Asked.{Asked, the_turns, some_streams, a_folder, some_dumps, a_sector}
-use Rattle.flux_words.specs.Asked.{an_identity, written_streams, a_trial, a_g64_file}
+use Rattle.flux_words.specs.Asked.{an_identity, told_files, written_streams, a_trial, a_g64_file}
 use Rattle.flux_words.specs.Asked.{an_image_of_g64, a_page}
 use Rattle.flux_words.specs.Counts.{IsCount}
 use Rattle.flux_words.specs.DumpWords.{AskedDumps, AreDumpWords}
@@ -43,6 +43,10 @@ abbrev pub AreStreams : Way → Output → (others : List (List ℕ)) → Asked 
 AreStreams way output others asked =
     (format : Format) × IsFormat format others × (asked ≡ streams_of way output format)
 
+-- one word, of a dump
+abbrev pub IsDump : (others : List (List ℕ)) → (dump : List ℕ) → Type 0
+IsDump others dump = (others ≡ dump ∷ []) × (dump ≢ [])
+
 -- What the words behind a verb's ask for. A count or a seed may have zeros before it.
 abbrev pub AreBehind : Verb → (others : List (List ℕ)) → Asked → Type 0
 AreBehind Turns others asked = (others ≡ []) × (asked ≡ the_turns)
@@ -62,7 +66,8 @@ AreBehind Read others asked =
 AreBehind Show others asked =
     (sector : AskedSector) × AreSectorWords others sector × (asked ≡ a_sector sector)
 AreBehind Identify others asked =
-    (dump : List ℕ) × (others ≡ dump ∷ []) × (dump ≢ []) × (asked ≡ an_identity dump)
+    (dump : List ℕ) × IsDump others dump × (asked ≡ an_identity dump)
+AreBehind Info others asked = (dump : List ℕ) × IsDump others dump × (asked ≡ told_files dump)
 AreBehind Write others asked =
     (format : Format) × IsFormat format others × (asked ≡ written_streams format)
 AreBehind Trial others asked =

@@ -3,9 +3,9 @@
 ghost use Rattle.std.specs.Prelude.{◌≡◌, ◌⊎◌, ℕ, List, IfNone, IfSome};
 ghost use Rattle.std.specs.Option.{option_map};
 ghost use Rattle.flux_help.specs.declared.verb.Verb.TheVariants.{DecodeFolder, DecodeSet, FromG64, Help, Identify};
-ghost use Rattle.flux_help.specs.declared.verb.Verb.TheVariants.{Read, Show, ToG64, Trial, Turns, Write};
+ghost use Rattle.flux_help.specs.declared.verb.Verb.TheVariants.{Info, Read, Show, ToG64, Trial, Turns, Write};
 ghost use Rattle.flux_words.specs.Asked.{asked_of};
-ghost use Rattle.flux_words.specs.CommandWords.{AreStreams, IsFormat, IsFormatWith};
+ghost use Rattle.flux_words.specs.CommandWords.{AreStreams, IsDump, IsFormat, IsFormatWith};
 ghost use Rattle.flux_words.specs.inside.CommandWords.{AskBehind};
 ghost use Rattle.flux_words.specs.G64Disks.{format_of};
 ghost use Rattle.flux_words.specs.Names.{Names};
@@ -131,18 +131,37 @@ pub(crate) fn sector_behind(others: &[Word]) -> Option<Command<'_>>
     }
 }
 
-pub(crate) fn dump_behind(others: &[Word]) -> Option<Command<'_>>
-    ensures { AskBehind Identify others.now (option_map asked_of result) }
+/// A dump alone.
+fn dump_in(others: &[Word]) -> Option<&Word>
+    ensures { Names (IsDump others.now) (option_map (λ dump. dump.now) result) }
 {
     match others {
         [dump] => {
             if dump.bytes().is_empty() {
                 None
             } else {
-                Some(Command::Identify(dump))
+                Some(dump)
             }
         }
         _ => None,
+    }
+}
+
+pub(crate) fn dump_behind(others: &[Word]) -> Option<Command<'_>>
+    ensures { AskBehind Identify others.now (option_map asked_of result) }
+{
+    match dump_in(others) {
+        Some(dump) => Some(Command::Identify(dump)),
+        None => None,
+    }
+}
+
+pub(crate) fn info_behind(others: &[Word]) -> Option<Command<'_>>
+    ensures { AskBehind Info others.now (option_map asked_of result) }
+{
+    match dump_in(others) {
+        Some(dump) => Some(Command::Info(dump)),
+        None => None,
     }
 }
 

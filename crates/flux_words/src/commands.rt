@@ -9,8 +9,9 @@ ghost use Rattle.flux_words.specs.inside.CommandWords.{AskBehind};
 ghost use Rattle.flux_words.specs.Names.{Names};
 
 use crate::behind::{
-    dump_behind, dumps_behind, folder_behind, from_g64_behind, page_behind, sector_behind,
-    set_behind, streams_behind, to_g64_behind, trial_behind, turns_behind, write_behind,
+    dump_behind, dumps_behind, folder_behind, from_g64_behind, info_behind, page_behind,
+    sector_behind, set_behind, streams_behind, to_g64_behind, trial_behind, turns_behind,
+    write_behind,
 };
 use crate::dump_words::DumpsAsked;
 use crate::g64_disk::G64Disk;
@@ -34,6 +35,8 @@ pub enum Command<'a> {
     Sector(ShowAsked<'a>),
     /// Which disk a dump is of.
     Identify(&'a Word),
+    /// What the files of a dump tell without any format.
+    Info(&'a Word),
     /// The streams of a disk's tracks, from its image.
     Write(Format),
     /// The trial that a number names.
@@ -95,6 +98,7 @@ fn command_behind(verb: Verb, others: &[Word]) -> Option<Command<'_>>
 {
     match verb {
         Verb::Identify => dump_behind(others),
+        Verb::Info => info_behind(others),
         Verb::Read => dumps_behind(others),
         Verb::Show => sector_behind(others),
         Verb::DecodeFolder => folder_behind(others),

@@ -114,6 +114,9 @@ const TOLD: &[(&[&str], &str, u64)] = &[
     (&["identify"], "usage: flux identify DUMP\n", 1),
     (&["identify", ""], "usage: flux identify DUMP\n", 1),
     (&["identify", "a", "b"], "usage: flux identify DUMP\n", 1),
+    (&["info"], "usage: flux info DUMP\n", 1),
+    (&["info", ""], "usage: flux info DUMP\n", 1),
+    (&["info", "a", "b"], "usage: flux info DUMP\n", 1),
     (&["read"], READ, 1),
     (&["read", "amiga"], READ, 1),
     // The format's word is the first that is no option.
@@ -242,8 +245,16 @@ const NO_DISK: Row = Row {
     ..NO_FILES
 };
 
+/// The same of a dump of whose files is asked how fast they turned.
+const NO_TURNS: Row = Row {
+    name: "how fast a dump without files turned",
+    words: &["info", "dump"],
+    ..NO_FILES
+};
+
 const ROWS: &[Row] = &[
     NO_DISK,
+    NO_TURNS,
     NO_FILES,
     NO_SECTOR,
     Row {

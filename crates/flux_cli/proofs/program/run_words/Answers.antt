@@ -4,7 +4,7 @@ use Rattle.flux_help.specs.WrongWords.{wrong_text}
 use Rattle.flux_base.specs.declared.status.Status.TheVariants.{NotesFault, ShelfFault, Usage}
 use Rattle.flux_base.specs.lemmas.Blaming.{CountsBy-notes}
 use Rattle.flux_engine.specs.lemmas.ReadLaws.{no_reads}
-use Rattle.flux_words.specs.Asked.{the_turns, some_streams, a_folder, some_dumps, a_sector, an_identity, written_streams, a_trial, a_g64_file, an_image_of_g64, a_page}
+use Rattle.flux_words.specs.Asked.{the_turns, some_streams, a_folder, some_dumps, a_sector, an_identity, told_files, written_streams, a_trial, a_g64_file, an_image_of_g64, a_page}
 use Rattle.flux_words.specs.DumpWords.{asked_dumps}
 use Rattle.flux_words.specs.SectorWords.{asked_sector}
 use Rattle.flux_cli.proofs.AskedWords.{asked_keeps, asked_over}
@@ -104,6 +104,12 @@ returns-in-Some-Identify-clause-ran g c = record { asked = Some (an_identity c.i
 
 pub returns-in-Some-Identify-clause-counts : goal.returns-in-Some-Identify-clause-counts
 returns-in-Some-Identify-clause-counts g c = rw (asked_over c.args.words.now (an_identity c.in-Some-Identify.dump.now) (rw c.in-Some-Identify.field-0-is at c.in-Some-Identify.ensures)) c.run-in-Some-Identify.ensures.counts
+
+pub returns-in-Some-Info-clause-ran : goal.returns-in-Some-Info-clause-ran
+returns-in-Some-Info-clause-ran g c = record { asked = Some (told_files c.in-Some-Info.dump.now); asks = (rw c.in-Some-Info.field-0-is at c.in-Some-Info.ensures); did = c.run-in-Some-Info.ensures.did }
+
+pub returns-in-Some-Info-clause-counts : goal.returns-in-Some-Info-clause-counts
+returns-in-Some-Info-clause-counts g c = rw (asked_over c.args.words.now (told_files c.in-Some-Info.dump.now) (rw c.in-Some-Info.field-0-is at c.in-Some-Info.ensures)) c.run-in-Some-Info.ensures.counts
 
 pub returns-in-Some-Write-clause-ran : goal.returns-in-Some-Write-clause-ran
 returns-in-Some-Write-clause-ran g c = record { asked = Some (written_streams c.in-Some-Write.format); asks = (rw c.in-Some-Write.field-0-is at c.in-Some-Write.ensures); did = c.run-in-Some-Write.ensures.did }
