@@ -1,9 +1,9 @@
 pub mod Answering
 pub mod BenchLemmas
 pub mod BlockReadings
-pub mod Buffers
 pub mod FindLemmas
 pub mod Growing
+pub mod HeldReading
 pub mod IndexLemmas
 pub mod Joining
 pub mod Keepings

@@ -2,6 +2,7 @@ pub mod Bench
 pub mod Blocks
 pub mod Growth
 pub mod Held
+pub mod HeldStreams
 pub mod Joined
 pub mod inside
 pub mod lemmas

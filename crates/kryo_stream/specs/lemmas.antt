@@ -1,2 +1,3 @@
 -- What follows from the definitions: nobody has to believe it.
+pub mod Buffers
 pub mod Standing

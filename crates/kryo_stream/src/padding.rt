@@ -11,7 +11,7 @@ const MOST_PADDING: usize = 16;
 /// None where that depends on the bytes that follow: `bytes` are then padding if no byte follows.
 pub fn padding_at_hand(bytes: &[u8]) -> Option<usize>
     ensures settled { IfSome result (λ count. (later : List ℕ) → padding_of (bytes.now ++ later) ≡ count) }
-    ensures within { IfSome result (λ count. count ≤ length bytes.now) }
+    ensures within { IfSome result (λ count. count < length bytes.now) }
     ensures short { IfNone result (length bytes.now ≤ 16) }
     ensures at_end { IfNone result (padding_of bytes.now ≡ length bytes.now) }
 {

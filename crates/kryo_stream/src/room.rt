@@ -1,13 +1,16 @@
-ghost use Rattle.std.specs.Prelude.{◌≡◌, ◌≤◌, ◌++◌, ℕ, List, [], length, Some, true, IfOk, OnErr};
+ghost use Rattle.std.specs.Prelude.{◌≡◌, ◌≤◌, ◌++◌, ℕ, List, [], length, Some, true, IfErr, IfOk, OnErr};
 ghost use Rattle.flux_base.specs.Counts.{Counts};
 ghost use Rattle.flux_base.specs.World.{source_counts};
+ghost use Rattle.kryo_stream.specs.HeldStreams.{HoldsFault, HoldsStream};
 ghost use Rattle.kryo_stream.specs.Outcome.{IsRead, IsReadOfInput, IsReadWhereNeeded, IsSmall, TrackCause};
 ghost use Rattle.kryo_stream.specs.Outcome.{is_read_fault, input_of};
 ghost use Rattle.kryo_stream.specs.Reads.{reads_at};
 
 use crate::bench::{MOST_INDEXES, MOST_TIMES, StreamBench};
-use crate::fault::{CaptureFault, TrackFault};
+use crate::fault::{CaptureFault, StreamFault, TrackFault};
+use crate::held::HeldBytes;
 use crate::intake::Intake;
+use crate::laws::growth_law;
 use crate::reading::read_track;
 use flux_base::{Memory, Source};
 use index_turns::TrackFlux;
@@ -94,6 +97,28 @@ impl StreamRoom {
             }),
             // All room was reserved.
             Err(TrackFault::Memory) => unreachable!(),
+        }
+    }
+
+    /// Reads the stream that these bytes begin with, and gives how many bytes it has; or gives its first fault, behind
+    /// the number of the block. The room begins anew before.
+    pub fn read_held(&mut self, held: &[u8]) -> Result<usize, (u32, StreamFault)>
+        ensures read { IfOk result (HoldsStream held.now self.new.flux) }
+        ensures refused { IfErr result (HoldsFault held.now) }
+        ensures small { IsSmall self.new.flux }
+    {
+        growth_law();
+        self.restart();
+        let mut source = HeldBytes { rest: held };
+        match self.read(&mut source) {
+            Ok(()) => {
+                let unused = self.intake.bytes().len() + source.count();
+                let size = held.len() - unused;
+                Ok(size)
+            }
+            Err(CaptureFault::Refused { block, fault }) => Err((block, fault)),
+            // Bytes at hand do not fail.
+            Err(CaptureFault::ReadFault) => unreachable!(),
         }
     }
 

@@ -14,7 +14,7 @@ returns-in-Some-clause-unpadded g c =
     (sym (ap (λ i. i.held) c.pass.ensures))
     (padding_passed c.in-Some.count c.loop-count.invariant.took
     (λ later. subst (λ y. padding_of (y ++ later) ≡ c.in-Some.count) c.bytes.ensures.value (c.in-Some.ensures.settled later))
-    (subst (λ y. c.in-Some.count ≤ length y) c.bytes.ensures.value c.in-Some.ensures.within))
+    (omega (arith, c.in-Some.ensures.within, ap length c.bytes.ensures.value)))
 
 pub loop-count-preserved : goal.loop-count-preserved
 loop-count-preserved g c =

@@ -1,5 +1,5 @@
 use Rattle.std.proofs.Common.{◌-◌, take, drop, ap, ◌∙◌}
-use Rattle.kryo_stream.proofs.Buffers.{grown}
+use Rattle.kryo_stream.specs.lemmas.Buffers.{grown}
 use Rattle.kryo_stream.proofs.Taking.{Takes-read}
 use Rattle.kryo_stream.proofs.intake.Intake.more.Goals as goal
 

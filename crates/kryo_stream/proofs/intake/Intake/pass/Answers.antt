@@ -1,5 +1,5 @@
 use Rattle.std.proofs.Common.{ap, sym, subst, ◌≤◌, List, ℕ, length}
-use Rattle.kryo_stream.proofs.Buffers.{passed}
+use Rattle.kryo_stream.specs.lemmas.Buffers.{passed}
 use Rattle.kryo_stream.specs.Held.{IntakeState}
 use Rattle.kryo_stream.proofs.intake.Intake.pass.Goals as goal
 
