@@ -38,7 +38,7 @@ use cell_bits::Cells;
 use disk_recordings::{DiskId, controller_format, recording_of, sectors_of};
 use flux_base::{Sink, Source, TrackId};
 use index_turns::TrackFlux;
-use kryo_stream::{CaptureFault, StreamRoom};
+use kryo_stream::{CaptureFault, StreamRoom, growth_law};
 use phase_loop::{Loop, LoopStart, recover};
 use sector_images::{Format, nominal, ring_cells, track_id, tracks_keep_bounds};
 use sector_report::Totals;
@@ -215,6 +215,7 @@ pub fn read_stream<S: Source>(source: &mut S, stream: &mut StreamRoom) -> Result
     ensures used { stream.new.used ≡ true }
     ensures counts { Counts (is_unread result) (source_counts S.Source source.old) (source_counts S.Source source.new) }
 {
+    growth_law();
     stream.read(source)
 }
 

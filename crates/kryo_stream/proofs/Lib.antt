@@ -25,5 +25,6 @@ pub mod Streams
 pub mod Taking
 pub mod Tallies
 pub mod Turnings
+pub mod TwoTurns
 pub mod Unpadding
 pub mod WritingLemmas

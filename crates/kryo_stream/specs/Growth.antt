@@ -1,5 +1,5 @@
--- What a stream without a fault is when more bytes follow it, the same, and how
--- many transitions it has at most.
+-- What a stream without a fault is when more bytes follow it, the same, and how many transitions
+-- and index times it has.
 use Rattle.std.specs.Prelude.{◌≡◌, ◌≤◌, ℕ, ◌++◌, List, length, None}
 use Rattle.kryo_stream.specs.Padding.{unpadded}
 use Rattle.kryo_stream.specs.Protocol.{LIMIT}
@@ -27,3 +27,7 @@ StreamsAreShort =
 -- nor has it more bytes
 abbrev pub StreamsKeepTheLimit : Type 0
 StreamsKeepTheLimit = (x : List ℕ) → first_fault x ≡ None → stream_length x ≤ LIMIT
+
+-- it has two index times at least
+abbrev pub StreamsHaveTurns : Type 0
+StreamsHaveTurns = (x : List ℕ) → first_fault x ≡ None → 2 ≤ length (indexes x)

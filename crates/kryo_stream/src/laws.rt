@@ -2,7 +2,8 @@ ghost use Rattle.std.specs.Prelude.{◌≡◌, ◌<◌, ◌++◌, ℕ, List, All
 ghost use Rattle.kryo_stream.specs.declared.block.Block.{Block};
 ghost use Rattle.kryo_stream.specs.declared.block.SpelledBlock.{SpelledBlock};
 ghost use Rattle.kryo_stream.specs.Blocks.{Spells};
-ghost use Rattle.kryo_stream.specs.Growth.{PaddingStays, StreamsAreShort, StreamsKeepTheLimit, StreamsStay};
+ghost use Rattle.kryo_stream.specs.Growth.{PaddingStays, StreamsAreShort, StreamsHaveTurns, StreamsKeepTheLimit};
+ghost use Rattle.kryo_stream.specs.Growth.{StreamsStay};
 ghost use Rattle.kryo_stream.specs.Joined.{PaddingIsPassed};
 ghost use Rattle.kryo_stream.specs.Padding.{IsPadding, padding_of};
 ghost use Rattle.kryo_stream.specs.Sequence.{AreInOrder, IsStreamOf, spellings, transitions_from};
@@ -47,10 +48,12 @@ pub fn joined_law()
 {}
 
 /// A stream without a fault stays the one that is read when more bytes follow, and so does the padding before it.
-/// It has no more transitions, and no more index times, than it may have bytes, and no more bytes than that.
+/// It has no more transitions, and no more index times, than it may have bytes, no more bytes than that, and two
+/// index times at least.
 pub fn growth_law()
     ensures streams { StreamsStay }
     ensures padding { PaddingStays }
     ensures short { StreamsAreShort }
     ensures limit { StreamsKeepTheLimit }
+    ensures turns { StreamsHaveTurns }
 {}

@@ -5,4 +5,4 @@ pub returns-clause-read : goal.returns-clause-read
 returns-clause-read g c = read_answered _ _ _ _ _ _ c.read.result c.read.ensures.read
 
 pub returns-clause-bounded : goal.returns-clause-bounded
-returns-clause-bounded g c = answered_bounded _ _ _ _ _ _ c.read.result c.read.ensures.read c.read.ensures.small
+returns-clause-bounded g c = answered_bounded _ _ _ _ _ _ c.growth_law.ensures.turns c.read.result c.read.ensures.read c.read.ensures.small
