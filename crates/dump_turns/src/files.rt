@@ -16,11 +16,10 @@ ghost use Rattle.dump_turns.specs.inside.Opened.{FindsOne, Holds, IsFresh, IsOpe
 ghost use Rattle.dump_turns.specs.inside.Told.{IsBoundedFound};
 
 use crate::found::Found;
-use crate::held::HeldBytes;
 use crate::measuring::measure;
 use flux_base::{Failed, TrackId};
-use flux_engine::{CaptureFault, NextStream, fill, read_stream};
-use kryo_stream::StreamRoom;
+use flux_engine::{NextStream, fill};
+use kryo_stream::{StreamRoom, growth_law};
 use sector_report::Passed;
 use track_shelf::Shelf;
 
@@ -108,14 +107,9 @@ fn read_held(held: &[u8], stream: &mut StreamRoom) -> NextStream
     ensures not_failed { is_failed (seen_next result stream.new.flux).passed ≡ false }
     ensures bounded { IsBoundedNext result stream.new.flux }
 {
-    let mut source = HeldBytes { rest: held };
-    stream.restart();
-    match read_stream(&mut source, stream) {
-        Ok(()) => NextStream::Read,
-        Err(CaptureFault::Refused { block, fault }) => {
-            NextStream::PassedOver(Passed::Refused { block, fault })
-        }
-        // Bytes at hand do not fail.
-        Err(CaptureFault::ReadFault) => unreachable!(),
+    growth_law();
+    match stream.read_held(held) {
+        Ok(_) => NextStream::Read,
+        Err((block, fault)) => NextStream::PassedOver(Passed::Refused { block, fault }),
     }
 }

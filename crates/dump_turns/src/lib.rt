@@ -4,7 +4,6 @@
 
 mod files;
 mod found;
-mod held;
 mod laws;
 mod lines;
 mod measuring;
