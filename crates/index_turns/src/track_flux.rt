@@ -1,9 +1,9 @@
-ghost use Rattle.std.specs.Prelude.{◌≡◌, ℕ, ◌+◌, ◌*◌, ◌-◌, ◌^◌, ◌<◌, ◌≤◌, [], ◌∷◌, ◌++◌, length, All, IfOk, OnOk};
+ghost use Rattle.std.specs.Prelude.{◌≡◌, ℕ, ◌+◌, ◌*◌, ◌-◌, ◌^◌, ◌<◌, ◌≤◌, [], ◌∷◌, ◌++◌, length, take, All, IfOk, OnOk};
 ghost use Rattle.std.specs.Prelude.{OnErr, IsOk, vec_len};
 ghost use Rattle.std.specs.List.{sum};
 ghost use Rattle.std.specs.List.Sorted.{IsNonDecreasing, IsStrictlyIncreasing};
 ghost use Rattle.std.specs.Vec.{vec_capacity};
-ghost use Rattle.index_turns.specs.Track.{KeepsRoom, times_after, turn_at, turn_length};
+ghost use Rattle.index_turns.specs.Track.{KeepsRoom, room_of_times, times_after, turn_at, turn_length};
 
 use flux_base::Memory;
 use std::alloc::Global;
@@ -168,6 +168,16 @@ impl TrackFlux {
         self.indexes.try_reserve(1)?;
         self.indexes.push_reserved(time);
         Ok(())
+    }
+
+    /// Forgets all times behind the first so many, and keeps their room.
+    pub fn keep_times(&mut self, count: usize)
+        ensures times { self.new.times ≡ take count self.old.times }
+        ensures indexes { self.new.indexes ≡ self.old.indexes }
+        ensures room { room_of_times self.new ≡ room_of_times self.old }
+        ensures spare_indexes { self.new.spare_indexes ≡ self.old.spare_indexes }
+    {
+        self.times.truncate(count);
     }
 
     /// Forgets all times and index times, and keeps their room.
