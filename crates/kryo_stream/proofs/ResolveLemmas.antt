@@ -71,7 +71,7 @@ fault_position ps k m behind =
     let outside : nat_lt (in_stream_bytes ps) m.position ≡ true = grind (arith, nat_tests, behind) in
     rw outside
 
-fault_order : (ps : List SpelledBlock) (k : ℕ) (m : Mark) → m.position ≤ in_stream_bytes ps → 0 < k
+pub fault_order : (ps : List SpelledBlock) (k : ℕ) (m : Mark) → m.position ≤ in_stream_bytes ps → 0 < k
     → index_time ps m ≤ get_or (indexes_of ps) (k - 1) 0 → mark_fault ps k m ≡ Some (m.number, IndexOrder)
 fault_order ps k m within some falls =
     let inside : nat_lt (in_stream_bytes ps) m.position ≡ false = grind (arith, nat_tests, within) in
@@ -137,12 +137,12 @@ seen_none ps k placed s i below =
     ∙ fault_none ps i (get_or (marks ps) i blank) (s.within i below)
     (λ some. omega (arith, seen_before ps k placed s i some (omega arith), s.rising i some below, s.times i below))
 
-seen_faults : (ps : List SpelledBlock) (placed : List ℕ) → Seen ps (length (marks ps)) placed → mark_faults ps ≡ []
+pub seen_faults : (ps : List SpelledBlock) (placed : List ℕ) → Seen ps (length (marks ps)) placed → mark_faults ps ≡ []
 seen_faults ps placed s =
     filter_map-none (mark_fault_at ps) 0 (length (marks ps))
     (λ i low high. seen_none ps (length (marks ps)) placed s i (omega arith))
 
-seen_first : (ps : List SpelledBlock) (k : ℕ) (placed : List ℕ) (fault : ℕ × StreamFault) → Seen ps k placed → k < length (marks ps)
+pub seen_first : (ps : List SpelledBlock) (k : ℕ) (placed : List ℕ) (fault : ℕ × StreamFault) → Seen ps k placed → k < length (marks ps)
     → mark_fault_at ps k ≡ Some fault → turn_fault ps ≡ Some fault
 seen_first ps k placed fault s inside here =
     let first : slice_get (mark_faults ps) 0 ≡ Some fault =
@@ -223,7 +223,7 @@ TurnCause-placing ps b transitions total end k before spare placed m (Refused bl
     ])
 
 -- where no Index block is at fault, only their number counts
-turn_fault-counted : (ps : List SpelledBlock) (few : Bool) → mark_faults ps ≡ [] → nat_lt (length (marks ps)) 2 ≡ few
+pub turn_fault-counted : (ps : List SpelledBlock) (few : Bool) → mark_faults ps ≡ [] → nat_lt (length (marks ps)) 2 ≡ few
     → turn_fault ps ≡ (if few then Some (length ps - 1, NoTurn) else None)
 turn_fault-counted ps few none test =
     ap (λ l. option_or (slice_get l 0) (if nat_lt (length (marks ps)) 2 then Some (length ps - 1, NoTurn) else None)) none

@@ -1,10 +1,10 @@
 -- Blocks that are spelled one after another are read as those blocks.
-use Rattle.std.proofs.Common.{◌≡◌, ◌≤◌, ◌<◌, ◌+◌, ◌-◌, ◌/◌, ◌%◌, ◌++◌, ◌&&◌, ◌↔◌, ℕ, zero, suc, Bool, true, false, List, [], ◌∷◌, All, length, map, take, drop, find, replicate, slice_get, unwrap_or, nat_lt, nat_le, Option, Some, None, refl, ap, sym, ◌∙◌, subst, arith, append-nil, length-append, if◌then◌else◌, inl, inr}
+use Rattle.std.proofs.Common.{◌≡◌, ◌≤◌, ◌<◌, ◌+◌, ◌-◌, ◌/◌, ◌%◌, ◌++◌, ◌&&◌, ◌↔◌, ℕ, zero, suc, Bool, true, false, List, [], ◌∷◌, All, length, map, take, drop, find, get_or, replicate, slice_get, unwrap_or, nat_lt, nat_le, Option, Some, None, refl, ap, sym, ◌∙◌, subst, arith, append-nil, length-append, if◌then◌else◌, inl, inr}
 use Rattle.std.specs.List.{range_with_len}
 use Rattle.std.specs.List.Sorted.{IsStrictlyIncreasing}
 use Rattle.std.proofs.lemmas.Bool.{cases_lt}
 use Rattle.std.proofs.lemmas.Bool.Decides.{nat_tests}
-use Rattle.std.proofs.lemmas.List.{map-append, length-map, take-append-le, take_all, nil_from_length}
+use Rattle.std.proofs.lemmas.List.{map-append, length-map, get_or-map, get_or-take, length-take-le, take-append-le, take_all, nil_from_length}
 use Rattle.std.proofs.lemmas.List.Concat.{flat_map-append}
 use Rattle.std.proofs.lemmas.List.Elements.{All-nil, All-cons, All-append}
 use Rattle.std.proofs.lemmas.List.Sums.{sum_by-cons, sum_by-take-le}
@@ -14,17 +14,19 @@ use Rattle.kryo_stream.specs.declared.block.Block.{Block}
 use Rattle.kryo_stream.specs.declared.block.Block.TheVariants.{Flux, Overflow, Nop, StreamInfo, Index, StreamEnd, Info, End}
 use Rattle.kryo_stream.specs.declared.block.Mark.{Mark}
 use Rattle.kryo_stream.specs.declared.block.SpelledBlock.{SpelledBlock}
+use Rattle.kryo_stream.specs.declared.fault.StreamFault.TheVariants.{IndexOrder, NoTurn}
 use Rattle.kryo_stream.specs.Bench.{stream_step}
 use Rattle.kryo_stream.specs.Blocks.{Spells, out_of_band}
 use Rattle.kryo_stream.specs.Spelling.{spelling, IsWritable}
-use Rattle.kryo_stream.specs.Stream.{total_bytes, in_stream_bytes, has_ended, block_ticks, ticks, is_end, times_of, marks, holds_byte, block_of_byte, index_time, indexes_of, stream}
-use Rattle.kryo_stream.specs.WellFormed.{IsBlockOf, IsBlockBehind, BeginsWith}
-use Rattle.kryo_stream.specs.Sequence.{spellings, spelled, all_spelled, StandsBetween, transitions_from, IsHeld, IsTurnAt, TurnsAre, AreInOrder, IsStreamOf}
+use Rattle.kryo_stream.specs.Stream.{total_bytes, in_stream_bytes, has_ended, block_ticks, ticks, is_end, times_of, marks, mark_faults, holds_byte, block_of_byte, index_time, indexes_of, stream, first_fault, turn_fault}
+use Rattle.kryo_stream.specs.WellFormed.{IsBlockOf, IsBlockBehind}
+use Rattle.kryo_stream.specs.Sequence.{spellings, spelled, all_spelled, StandsBetween, transitions_from, IsHeld, IsTurnAt, TurnsAre, AreInOrder, AreLaid, HasTurnFault, IsStreamOf, index_numbers}
 use Rattle.kryo_stream.proofs.BenchLemmas.{marks_from, marks-from}
 use Rattle.kryo_stream.proofs.FindLemmas.{find-range, FindsFirst}
 use Rattle.kryo_stream.proofs.IndexLemmas.{take-seam, in_stream_bytes-snoc, times_from, times-from}
+use Rattle.kryo_stream.proofs.ResolveLemmas.{Seen, seen_faults, seen_first, fault_order, turn_fault-counted, mark_fault_at-is, index_at, blank}
 use Rattle.kryo_stream.proofs.SpellingLaws.{spelling-spells}
-use Rattle.kryo_stream.proofs.StreamLaws.{stream-is, no_fault_at_start}
+use Rattle.kryo_stream.proofs.StreamLaws.{Laid, stream-laid, fault-laid, fault-from_turns}
 
 true_false : true ≡ false → ⊥
 true_false e = cc
@@ -252,28 +254,30 @@ turns-read blocks (Index position sample counter ∷ some) (turn ∷ turns) k ar
     }
 turns-read blocks (_ ∷ some) turns k are = turns-read blocks some turns (k + 1) are
 
+-- the numbers of the Index blocks
+numbers-are : (n : ℕ) (blocks : List Block) → map (λ m. m.number) (marks_from n (all_spelled blocks)) ≡ index_numbers n blocks
+numbers-are n [] = refl
+numbers-are n (Index position sample counter ∷ blocks) = ap (λ ns. n ∷ ns) (numbers-are (n + 1) blocks)
+numbers-are n (_ ∷ blocks) = numbers-are (n + 1) blocks
+
 -- the transitions of blocks
 transitions-are : (time : ℕ) (blocks : List Block) → times_from time (all_spelled blocks) ≡ transitions_from time blocks
 transitions-are time [] = refl
 transitions-are time (Flux t ∷ blocks) = ap (λ ts. (time + t) ∷ ts) (transitions-are (time + t) blocks)
 transitions-are time (b ∷ blocks) = transitions-are (time + block_ticks b) blocks
 
-module _ (blocks : List Block) (turns : List ℕ) (o : AreInOrder blocks turns) where
+module _ (blocks : List Block) (turns : List ℕ) (o : AreLaid blocks turns) where
   read : AreRead blocks (marks (all_spelled blocks)) turns
   read = subst (λ ms. AreRead blocks ms turns) (sym (marks-from (all_spelled blocks))) (turns-read blocks blocks turns 0 o.turns_are)
 
-  enough : 2 ≤ length (marks (all_spelled blocks))
-  enough = omega (arith, o.enough, ap length read.times_are, length-map (marks (all_spelled blocks)) (index_time (all_spelled blocks)))
+  many : length (marks (all_spelled blocks)) ≡ length turns
+  many = sym (length-map (marks (all_spelled blocks)) (index_time (all_spelled blocks))) ∙ ap length read.times_are
 
   stands : (j : ℕ) (p : SpelledBlock) (at : IsPlace blocks j p) → StandsBetween at.before at.block at.behind
   stands j p at = o.each at.before at.block at.behind at.whole
 
-  some_blocks : (bs : List Block) → bs ≡ blocks → 0 < length (all_spelled bs)
-  some_blocks [] is = absurd (let none = subst (λ b. 2 ≤ length (marks (all_spelled b))) (sym is) enough in omega (arith, none))
-  some_blocks (b ∷ bs) is = omega arith
-
-  begins : BeginsWith (spellings blocks) (all_spelled blocks)
-  begins = record {
+  laid : Laid (spellings blocks) (all_spelled blocks)
+  laid = record {
     limit = omega (arith, total_bytes-spelled blocks, o.limit);
     blocks = λ j p is.
         let at = place_of blocks j p is in
@@ -281,21 +285,95 @@ module _ (blocks : List Block) (turns : List ℕ) (o : AreInOrder blocks turns) 
         (subst (IsBlockBehind (spellings blocks) (all_spelled at.before)) at.piece_is
         (subst (λ bs. IsBlockBehind (spellings bs) (all_spelled at.before) (spelled at.block)) at.whole
         (block_behind at.before at.block at.behind (stands j p at))));
-    some = some_blocks blocks refl;
+    some = omega (arith, o.some, length-map blocks spelled);
     last = λ j p is. let at = place_of blocks j p is in place-end blocks j p at (stands j p at);
-    turns = enough;
-    positions = read.within;
-    order = subst IsStrictlyIncreasing (sym read.times_are) o.order;
   }
+
+  bytes : All (λ byte. byte < 256) (spellings blocks)
+  bytes = spellings-bytes blocks (λ before block behind is. (o.each before block behind is).numbers)
+
+  -- what is wrong is wrong with the turns
+  fault_is : first_fault (spellings blocks) ≡ turn_fault (all_spelled blocks)
+  fault_is = fault-laid (spellings blocks) (all_spelled blocks) bytes laid
+
+  stream_is : stream (spellings blocks) ≡ all_spelled blocks
+  stream_is = stream-laid (spellings blocks) (all_spelled blocks) bytes laid
+
+  -- the first index times, where they rise
+  seen : (k : ℕ) → k ≤ length turns → ((i : ℕ) → 0 < i → i < k → get_or turns (i - 1) 0 < get_or turns i 0)
+      → Seen (all_spelled blocks) k (take k turns)
+  seen k few rising =
+      let ps : List SpelledBlock = all_spelled blocks in
+      record {
+        count = omega (arith, many, few);
+        times = λ i below. get_or-take k turns i 0 below ∙ ap (λ ts. get_or ts i 0) (sym read.times_are)
+            ∙ index_at ps i (get_or (marks ps) i blank) (omega (arith, many, few, below)) refl;
+        within = λ i below. read.within i blank (omega (arith, many, few, below));
+        rising = λ i some below. omega (arith, rising i some below, get_or-take k turns i 0 below, get_or-take k turns (i - 1) 0 (omega arith));
+        size = length-take-le k turns few;
+      }
+
+  number_is : (k : ℕ) → k < length turns → (get_or (marks (all_spelled blocks)) k blank).number ≡ get_or (index_numbers 0 blocks) k 0
+  number_is k inside =
+      sym (get_or-map (λ m. m.number) (marks (all_spelled blocks)) k blank 0 (omega (arith, many, inside)))
+      ∙ ap (λ ms. get_or (map (λ m. m.number) ms) k 0) (marks-from (all_spelled blocks)) ∙ ap (λ ns. get_or ns k 0) (numbers-are 0 blocks)
+
+  falls_at : (k : ℕ) → k + 1 < length turns → get_or turns (k + 1) 0 ≤ get_or turns k 0
+      → ((j : ℕ) → j < k → get_or turns j 0 < get_or turns (j + 1) 0)
+      → first_fault (spellings blocks) ≡ Some (get_or (index_numbers 0 blocks) (k + 1) 0, IndexOrder)
+  falls_at k inside falls rise =
+      let ps : List SpelledBlock = all_spelled blocks in
+      let m : Mark = get_or (marks ps) (k + 1) blank in
+      let within : k + 1 < length (marks ps) = omega (arith, many, inside) in
+      let before : (k + 1) - 1 ≡ k = omega arith in
+      let time : (i : ℕ) → i < length turns → get_or (indexes_of ps) i 0 ≡ get_or turns i 0 = λ i low. ap (λ ts. get_or ts i 0) read.times_are in
+      fault_is
+      ∙ seen_first ps (k + 1) (take (k + 1) turns) (m.number, IndexOrder)
+      (seen (k + 1) (omega (arith, inside)) (λ i some below.
+      let next : (i - 1) + 1 ≡ i = omega (arith, some) in
+      omega (arith, rise (i - 1) (omega (arith, some, below)), ap (λ n. get_or turns n 0) next)))
+      within
+      (mark_fault_at-is ps (k + 1) m within refl
+      ∙ fault_order ps (k + 1) m (read.within (k + 1) blank within) (omega arith)
+      (omega (arith, falls, time (k + 1) inside, index_at ps (k + 1) m within refl, ap (λ n. get_or (indexes_of ps) n 0) before, time k (omega (arith, inside)))))
+      ∙ ap (λ n. Some (n, IndexOrder)) (number_is (k + 1) inside)
+
+  too_few : IsStrictlyIncreasing turns → length turns < 2 → first_fault (spellings blocks) ≡ Some (length blocks - 1, NoTurn)
+  too_few rising few =
+      let ps : List SpelledBlock = all_spelled blocks in
+      let all : length turns ≡ length (marks ps) = sym many in
+      let none : mark_faults ps ≡ [] =
+      seen_faults ps (take (length turns) turns) (subst (λ n. Seen ps n (take (length turns) turns)) all
+      (seen (length turns) (omega arith) (λ i some below.
+      let next : (i - 1) + 1 ≡ i = omega (arith, some) in
+      omega (arith, rising (i - 1) (omega (arith, some, below)), ap (λ n. get_or turns n 0) next)))) in
+      let small : length (marks ps) < 2 = omega (arith, few, many) in
+      let test : nat_lt (length (marks ps)) 2 ≡ true = grind (arith, nat_tests, small) in
+      fault_is ∙ turn_fault-counted ps true none test ∙ ap (λ n. Some (n - 1, NoTurn)) (length-map blocks spelled)
+
+  pub blocks_faulty : HasTurnFault (spellings blocks) blocks turns
+  blocks_faulty = record { order = falls_at; none = too_few }
+
+some_blocks : (blocks : List Block) (turns : List ℕ) → TurnsAre blocks blocks turns → 2 ≤ length turns → 0 < length blocks
+some_blocks [] turns are two = absurd (omega (arith, two, ap length are))
+some_blocks (b ∷ bs) turns are two = omega arith
+
+module _ (blocks : List Block) (turns : List ℕ) (o : AreInOrder blocks turns) where
+  ordered : AreLaid blocks turns
+  ordered = record { limit = o.limit; some = some_blocks blocks turns o.turns_are o.enough; each = o.each; turns_are = o.turns_are }
 
   pub blocks_read : IsStreamOf (spellings blocks) (transitions_from 0 blocks) turns
   blocks_read =
-      let x = spellings blocks in
-      let bytes = spellings-bytes blocks (λ before block behind is. (o.each before block behind is).numbers) in
-      let same : stream x ≡ all_spelled blocks = stream-is x (all_spelled blocks) bytes begins in
+      let ps : List SpelledBlock = all_spelled blocks in
+      let are = read blocks turns ordered in
+      let same : stream (spellings blocks) ≡ ps = stream_is blocks turns ordered in
       record {
-        no_fault = no_fault_at_start x (all_spelled blocks) bytes begins;
-        transitions_are = ap times_of same ∙ times-from (all_spelled blocks) ∙ transitions-are 0 blocks;
-        turns_are = ap indexes_of same ∙ read.times_are;
+        no_fault = fault_is blocks turns ordered ∙ fault-from_turns ps (record {
+          turns = omega (arith, o.enough, many blocks turns ordered);
+          positions = are.within;
+          order = subst IsStrictlyIncreasing (sym are.times_are) o.order;
+        });
+        transitions_are = ap times_of same ∙ times-from ps ∙ transitions-are 0 blocks;
+        turns_are = ap indexes_of same ∙ are.times_are;
         whole = ap total_bytes same ∙ total_bytes-spelled blocks;
       }

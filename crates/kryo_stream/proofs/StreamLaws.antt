@@ -209,7 +209,7 @@ Turns-from_fault ps is =
           omega (arith, rises, at, ap (λ n. get_or (indexes_of ps) n 0) before);
     }
 
-fault-from_turns : (ps : List SpelledBlock) → Turns ps → turn_fault ps ≡ None
+pub fault-from_turns : (ps : List SpelledBlock) → Turns ps → turn_fault ps ≡ None
 fault-from_turns ps t =
     let none : mark_faults ps ≡ [] = filter_map-none (mark_fault_at ps) 0 (length (marks ps)) (λ k low high.
     let below : k < length (marks ps) = omega arith in
@@ -281,8 +281,18 @@ pub begins_without_fault : (x : List ℕ) → All IsByte x → first_fault x ≡
 begins_without_fault x all is =
     let w = whole_of x all is in subst (BeginsWith x) (sym w.more) (begins_from_whole x (last_block x) w)
 
--- the other way: the blocks of a well-formed stream are those that are read
-read_at : (x : List ℕ) (ps : List SpelledBlock) → BeginsWith x ps → (j : ℕ) (p : SpelledBlock) → slice_get ps j ≡ Some p
+-- the other way: blocks that stand at the front of x, of which the last and no other is an End, are those that are read,
+-- whatever their turns are
+pub record Laid (x : List ℕ) (ps : List SpelledBlock) : Type 0 where
+  pub limit : total_bytes ps ≤ LIMIT
+  pub blocks : (j : ℕ) (p : SpelledBlock) → slice_get ps j ≡ Some p → IsBlockBehind x (take j ps) p
+  pub some : 0 < length ps
+  pub last : (j : ℕ) (p : SpelledBlock) → slice_get ps j ≡ Some p → (is_end p.block ≡ true) ↔ (j + 1 ≡ length ps)
+
+Laid-from_begins : (x : List ℕ) (ps : List SpelledBlock) → BeginsWith x ps → Laid x ps
+Laid-from_begins x ps b = record { limit = b.limit; blocks = b.blocks; some = b.some; last = b.last }
+
+read_at : (x : List ℕ) (ps : List SpelledBlock) → Laid x ps → (j : ℕ) (p : SpelledBlock) → slice_get ps j ≡ Some p
     → piece_behind x (take j ps) ≡ Ok p
 read_at x ps b j p is =
     let below : j < length ps = slice_get_within ps j p is in
@@ -297,7 +307,7 @@ piece_of [] j below = absurd (omega arith)
 piece_of (p ∷ ps) zero below = (p, refl)
 piece_of (p ∷ ps) (suc j) below = piece_of ps j (omega arith)
 
-same_pieces : (x : List ℕ) (ps : List SpelledBlock) → BeginsWith x ps → (j : ℕ) → j ≤ length ps → pieces x j ≡ take j ps
+same_pieces : (x : List ℕ) (ps : List SpelledBlock) → Laid x ps → (j : ℕ) → j ≤ length ps → pieces x j ≡ take j ps
 same_pieces x ps b zero bound = refl
 same_pieces x ps b (suc j) bound =
     let below : j < length ps = omega arith in
@@ -308,7 +318,7 @@ same_pieces x ps b (suc j) bound =
     ∙ sym (take_more ps j it.0 below ∙ ap (λ q. take j ps ++ q ∷ []) (get_or_from_slice_get ps j it.0 it.0 it.1))
     ∙ ap (λ n. take n ps) next
 
-stops_is : (x : List ℕ) (ps : List SpelledBlock) → BeginsWith x ps → (j : ℕ) (p : SpelledBlock) → slice_get ps j ≡ Some p
+stops_is : (x : List ℕ) (ps : List SpelledBlock) → Laid x ps → (j : ℕ) (p : SpelledBlock) → slice_get ps j ≡ Some p
     → stops_at x j ≡ is_end p.block
 stops_is x ps b j p is =
     let below : j < length ps = slice_get_within ps j p is in
@@ -319,19 +329,19 @@ not_true true f = absurd (f refl)
 not_true false f = refl
 
 -- reading stops at the last of them, and not before
-stops_last : (x : List ℕ) (ps : List SpelledBlock) → BeginsWith x ps → stops_at x (length ps - 1) ≡ true
+stops_last : (x : List ℕ) (ps : List SpelledBlock) → Laid x ps → stops_at x (length ps - 1) ≡ true
 stops_last x ps b =
     let it = piece_of ps (length ps - 1) (omega (arith, b.some)) in
     stops_is x ps b (length ps - 1) it.0 it.1
     ∙ (b.last (length ps - 1) it.0 it.1).1 (omega (arith, b.some))
 
-goes_on : (x : List ℕ) (ps : List SpelledBlock) → BeginsWith x ps → (j : ℕ) → j < length ps - 1 → stops_at x j ≡ false
+goes_on : (x : List ℕ) (ps : List SpelledBlock) → Laid x ps → (j : ℕ) → j < length ps - 1 → stops_at x j ≡ false
 goes_on x ps b j below =
     let it = piece_of ps j (omega arith) in
     stops_is x ps b j it.0 it.1
     ∙ not_true (is_end it.0.block) (λ e. absurd (let at = (b.last j it.0 it.1).0 e in omega (arith, at, below)))
 
-last_block-is : (x : List ℕ) (ps : List SpelledBlock) → All IsByte x → BeginsWith x ps → last_block x ≡ length ps - 1
+last_block-is : (x : List ℕ) (ps : List SpelledBlock) → All IsByte x → Laid x ps → last_block x ≡ length ps - 1
 last_block-is x ps all b =
     let first = last_block-first x all in
     elim (cases_lt (last_block x) (length ps - 1)) [
@@ -345,22 +355,30 @@ last_block-is x ps all b =
     true_false : true ≡ false → ⊥
     true_false e = cc
 
--- the stream that is read is the one that x begins with
-pub stream-is : (x : List ℕ) (ps : List SpelledBlock) → All IsByte x → BeginsWith x ps → stream x ≡ ps
-stream-is x ps all b =
+pub stream-laid : (x : List ℕ) (ps : List SpelledBlock) → All IsByte x → Laid x ps → stream x ≡ ps
+stream-laid x ps all b =
     let whole : (length ps - 1) + 1 ≡ length ps = omega (arith, b.some) in
     ap (λ n. pieces x (n + 1)) (last_block-is x ps all b) ∙ ap (pieces x) whole
     ∙ same_pieces x ps b (length ps) (omega arith) ∙ take_all (length ps) ps (omega arith)
 
-pub no_fault_at_start : (x : List ℕ) (ps : List SpelledBlock) → All IsByte x → BeginsWith x ps → first_fault x ≡ None
-no_fault_at_start x ps all b =
+-- nothing is wrong with them but what is wrong with their turns
+pub fault-laid : (x : List ℕ) (ps : List SpelledBlock) → All IsByte x → Laid x ps → first_fault x ≡ turn_fault ps
+fault-laid x ps all b =
     let n : ℕ = last_block x in
     let it = piece_of ps (length ps - 1) (omega (arith, b.some)) in
     let read : piece_behind x (pieces x n) ≡ Ok it.0 =
     ap (λ m. piece_behind x (pieces x m)) (last_block-is x ps all b)
     ∙ ap (piece_behind x) (same_pieces x ps b (length ps - 1) (omega arith))
     ∙ read_at x ps b (length ps - 1) it.0 it.1 in
-    ap (fault_at x n) read ∙ ap turn_fault (stream-is x ps all b)
+    ap (fault_at x n) read ∙ ap turn_fault (stream-laid x ps all b)
+
+-- the stream that is read is the one that x begins with
+pub stream-is : (x : List ℕ) (ps : List SpelledBlock) → All IsByte x → BeginsWith x ps → stream x ≡ ps
+stream-is x ps all b = stream-laid x ps all (Laid-from_begins x ps b)
+
+pub no_fault_at_start : (x : List ℕ) (ps : List SpelledBlock) → All IsByte x → BeginsWith x ps → first_fault x ≡ None
+no_fault_at_start x ps all b =
+    fault-laid x ps all (Laid-from_begins x ps b)
     ∙ fault-from_turns ps (record { turns = b.turns; positions = b.positions; order = b.order })
 
 -- two well-formed streams at the front of one list are the same

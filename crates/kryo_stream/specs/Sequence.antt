@@ -1,10 +1,11 @@
 -- A stream as a list of blocks that are spelled one after another (KryoFlux stream protocol).
-use Rattle.std.specs.Prelude.{◌≡◌, ◌≤◌, ◌<◌, ◌+◌, ◌++◌, ◌↔◌, ℕ, true, List, [], ◌∷◌, length, map}
-use Rattle.std.specs.Prelude.{flat_map, None}
+use Rattle.std.specs.Prelude.{◌≡◌, ◌≤◌, ◌<◌, ◌+◌, ◌-◌, ◌++◌, ◌↔◌, ℕ, true, List, [], ◌∷◌, length}
+use Rattle.std.specs.Prelude.{map, flat_map, get_or, Some, None}
 use Rattle.std.specs.List.Sorted.{IsStrictlyIncreasing}
 use Rattle.kryo_stream.specs.declared.block.Block.{Block}
 use Rattle.kryo_stream.specs.declared.block.Block.TheVariants.{Index}
 use Rattle.kryo_stream.specs.declared.block.SpelledBlock.{SpelledBlock}
+use Rattle.kryo_stream.specs.declared.fault.StreamFault.TheVariants.{IndexOrder, NoTurn}
 use Rattle.kryo_stream.specs.Bench.{stream_step}
 use Rattle.kryo_stream.specs.Protocol.{LIMIT}
 use Rattle.kryo_stream.specs.Spelling.{spelling, IsWritable}
@@ -71,6 +72,31 @@ pub record AreInOrder (blocks : List Block) (turns : List ℕ) : Type 0 where
   pub turns_are : TurnsAre blocks blocks turns
   pub enough : 2 ≤ length turns
   pub order : IsStrictlyIncreasing turns
+
+-- the same, whatever the Index blocks' number and order are
+pub record AreLaid (blocks : List Block) (turns : List ℕ) : Type 0 where
+  pub limit : length (spellings blocks) ≤ LIMIT
+  pub some : 0 < length blocks
+  pub each : (before : List Block) (block : Block) (behind : List Block)
+      → before ++ block ∷ behind ≡ blocks
+      → StandsBetween before block behind
+  pub turns_are : TurnsAre blocks blocks turns
+
+-- the numbers of the Index blocks among some blocks, of which the first has this number
+abbrev pub index_numbers : ℕ → List Block → List ℕ
+index_numbers number [] = []
+index_numbers number (Index _ _ _ ∷ blocks) = number ∷ index_numbers (number + 1) blocks
+index_numbers number (_ ∷ blocks) = index_numbers (number + 1) blocks
+
+-- The first fault of a stream of these blocks, where its index times do not rise: that of the first
+-- Index block whose time is not above that of the one before it; or where they do and are fewer
+-- than two: that of the End block.
+pub record HasTurnFault (bytes : List ℕ) (blocks : List Block) (turns : List ℕ) : Type 0 where
+  pub order : (k : ℕ) → k + 1 < length turns → get_or turns (k + 1) 0 ≤ get_or turns k 0
+      → ((j : ℕ) → j < k → get_or turns j 0 < get_or turns (j + 1) 0)
+      → first_fault bytes ≡ Some (get_or (index_numbers 0 blocks) (k + 1) 0, IndexOrder)
+  pub none : IsStrictlyIncreasing turns → length turns < 2
+      → first_fault bytes ≡ Some (length blocks - 1, NoTurn)
 
 -- the bytes are one stream without a fault, with these transitions and index
 -- times, and nothing stands after it

@@ -6,7 +6,8 @@ ghost use Rattle.kryo_stream.specs.Growth.{PaddingStays, StreamsAreShort, Stream
 ghost use Rattle.kryo_stream.specs.Growth.{StreamsStay};
 ghost use Rattle.kryo_stream.specs.Joined.{PaddingIsPassed};
 ghost use Rattle.kryo_stream.specs.Padding.{IsPadding, padding_of};
-ghost use Rattle.kryo_stream.specs.Sequence.{AreInOrder, IsStreamOf, spellings, transitions_from};
+ghost use Rattle.kryo_stream.specs.Sequence.{AreInOrder, AreLaid, HasTurnFault, IsStreamOf};
+ghost use Rattle.kryo_stream.specs.Sequence.{spellings, transitions_from};
 ghost use Rattle.kryo_stream.specs.Spelling.{IsWritable, spelling};
 ghost use Rattle.kryo_stream.specs.Stream.{first_fault, stream};
 ghost use Rattle.kryo_stream.specs.WellFormed.{BeginsWith};
@@ -34,6 +35,12 @@ pub fn spelling_law()
 pub fn blocks_law()
     ensures { (blocks : List Block) (turns : List ℕ) → AreInOrder blocks turns
         → IsStreamOf (spellings blocks) (transitions_from 0 blocks) turns }
+{}
+
+/// Where the index times of such blocks do not rise, or are fewer than two, that alone is the fault of the stream.
+pub fn turn_faults_law()
+    ensures { (blocks : List Block) (turns : List ℕ) → AreLaid blocks turns
+        → HasTurnFault (spellings blocks) blocks turns }
 {}
 
 /// The padding before a stream is the greatest number of bytes, at most 16, of which each is padding.

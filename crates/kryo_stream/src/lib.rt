@@ -19,7 +19,9 @@ pub use bench::{MOST_INDEXES, MOST_TIMES, StreamBench};
 pub use block::{Block, Mark, SpelledBlock};
 pub use fault::{CaptureFault, StreamFault, TrackFault};
 pub use intake::Intake;
-pub use laws::{blocks_law, growth_law, joined_law, padding_law, spelling_law, stream_law};
+pub use laws::{
+    blocks_law, growth_law, joined_law, padding_law, spelling_law, stream_law, turn_faults_law,
+};
 pub use padding::padding_at_hand;
 pub use reading::read_track;
 pub use room::StreamRoom;
