@@ -13,8 +13,7 @@ use Rattle.kryo_stream.specs.Sequence.{spellings}
 use Rattle.flux_writer.specs.Written.{begin_of, interval_blocks, interval_of, in_stream_before, is_first_above, index_block, transition_blocks, stream_blocks}
 use Rattle.flux_writer.specs.inside.Writing.{count_before, indexes_before, indexes_from, next_blocks, last_blocks, many_blocks, next_position, position_after, time_after}
 use Rattle.flux_writer.proofs.Steps.{spellings-append}
-use Rattle.flux_writer.proofs.Rising.{Rises-from_increasing, Rises-from, from_is_late, filter-none, filter-same, filter-before, before-from, front_is_early}
-use Rattle.flux_writer.specs.lemmas.FoundOnes.{Rises}
+use Rattle.flux_writer.proofs.Rising.{Climbs, Climbs-from_increasing, Climbs-from, from_is_late, filter-none, filter-same, filter-before, before-from, front_is_early}
 
 -- the blocks of a stream that is written a transition at a time
 abbrev pub all_blocks : List ℕ → List ℕ → List Block
@@ -37,7 +36,7 @@ range-more a (suc n) =
     ∙ ap (λ k. a ∷ (range_with_len (a + 1) n ++ k ∷ [])) e
 
 -- the time at which the interval after some transitions begins
-begin_after : (b : ℕ) (ds xs : List ℕ) → get_or (b ∷ (ds ++ xs)) (length ds) 0 ≡ time_after b ds
+pub begin_after : (b : ℕ) (ds xs : List ℕ) → get_or (b ∷ (ds ++ xs)) (length ds) 0 ≡ time_after b ds
 begin_after b [] xs = refl
 begin_after b (d ∷ ds) xs = begin_after d ds xs
 
@@ -111,7 +110,7 @@ first_above-is ds t ts index =
     ∙ ap (λ front. nat_lt index t && list_all (λ time. nat_le time index) front) (take-append_seam ds (t ∷ ts))
 
 module _ (ds : List ℕ) (t : ℕ) (ts done rest : List ℕ) (gone : All (λ index. is_past ds index ≡ false) done)
-    (left : All (λ index. is_past ds index ≡ true) rest) (rises : Rises rest) where
+    (left : All (λ index. is_past ds index ≡ true) rest) (rises : Climbs rest) where
   -- the index times of the next transition are those at the front of what is left that lie before it
   indexes-next : filter (is_first_above (ds ++ t ∷ ts) (length ds)) (done ++ rest) ≡ indexes_before t rest
   indexes-next =
@@ -159,7 +158,7 @@ module _ (ds : List ℕ) (t : ℕ) (ts done rest : List ℕ) (gone : All (λ ind
       both a b x y = ap (λ c. c && b) x ∙ y
 
 blocks-from : (ds ts done rest : List ℕ) → All (λ index. is_past ds index ≡ false) done
-    → All (λ index. is_past ds index ≡ true) rest → Rises rest
+    → All (λ index. is_past ds index ≡ true) rest → Climbs rest
     → flat_map (transition_blocks (ds ++ ts) (done ++ rest)) (range_with_len (length ds) (length ts))
     ≡ many_blocks (in_stream ds) (time_after 0 ds) ts rest
 blocks-from ds [] done rest gone left rises = refl
@@ -176,12 +175,18 @@ blocks-from ds (t ∷ ts) done rest gone left rises =
     ∙ ap (λ w. flat_map (transition_blocks w is) (range_with_len (length (ds ++ t ∷ [])) (length ts))) (sym W)
     ∙ ap (λ i. flat_map (transition_blocks ((ds ++ t ∷ []) ++ ts) i) (range_with_len (length (ds ++ t ∷ [])) (length ts))) (sym all)
     ∙ blocks-from (ds ++ t ∷ []) ts (done ++ indexes_before t rest) (indexes_from t rest)
-    (gone-next ds t ts done rest gone left rises) (left-next ds t ts done rest gone left rises) (Rises-from t rest rises)
+    (gone-next ds t ts done rest gone left rises) (left-next ds t ts done rest gone left rises) (Climbs-from t rest rises)
     ∙ ap (λ p. many_blocks p (time_after 0 (ds ++ t ∷ [])) ts (indexes_from t rest)) (in_stream-next ds t)
     ∙ ap (λ b. many_blocks (next_position (in_stream ds) (time_after 0 ds) t) b ts (indexes_from t rest)) (time_after-next 0 ds t))
+
+-- the blocks of all transitions, where no index time is below one before it
+pub transitions-are : (times indexes : List ℕ) → Climbs indexes
+    → flat_map (transition_blocks times indexes) (range_with_len 0 (length times)) ≡ many_blocks 0 0 times indexes
+transitions-are times indexes climbs =
+    blocks-from [] times [] indexes (All-nil (λ index. is_past [] index ≡ false)) (λ k d below. refl) climbs
 
 pub stream_blocks-is : (times indexes : List ℕ) → IsStrictlyIncreasing indexes → stream_blocks times indexes ≡ all_blocks times indexes
 stream_blocks-is times indexes rising =
     ap (λ bs. bs ++ last_blocks (in_stream times))
-    (blocks-from [] times [] indexes (All-nil (λ index. is_past [] index ≡ false)) (λ k d below. refl) (Rises-from_increasing indexes rising))
+    (transitions-are times indexes (Climbs-from_increasing indexes rising))
     ∙ ap (λ p. many_blocks 0 0 times indexes ++ last_blocks p) (in_stream-after [] times)

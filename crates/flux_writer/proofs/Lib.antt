@@ -4,7 +4,9 @@ pub mod Steps
 pub mod Rising
 pub mod Equal
 pub mod Progress
+pub mod Capturing
 pub mod CellTimes
+pub mod Numbering
 pub mod Parts
 pub mod Rings
 pub mod Stands

@@ -11,14 +11,14 @@ use Rattle.flux_writer.specs.inside.Writing.{count_before, indexes_from, next_bl
 use Rattle.flux_writer.specs.declared.indexes.IndexUnit.TheVariants.{Ticks}
 use Rattle.flux_writer.proofs.Gathered.{Gathers-nothing, Gathers-more, Gathers-all, Gathers-part, AppendsPart-longer}
 use Rattle.flux_writer.proofs.Steps.{spellings-append, length-interval, many_blocks-append, position_after-append, time_after-append, indexes_after-append}
-use Rattle.flux_writer.proofs.Rising.{Rises-from_increasing, from_is_late, IsStrictlyIncreasing-drop}
+use Rattle.flux_writer.proofs.Rising.{Climbs-from_increasing, from_is_late, IsStrictlyIncreasing-drop}
 use Rattle.flux_writer.proofs.Equal.{stream_blocks-is}
 
 pub IsReady-next : (position begin count time : ℕ) (indexes : List ℕ) → IsReady position begin count indexes → begin ≤ time
     → IsReady (next_position position begin time) time (count + 1) (indexes_from time indexes)
 IsReady-next position begin count time indexes ready order = record {
   room = omega (arith, ready.room, order, length-interval (time - begin));
-  begun = from_is_late time indexes (Rises-from_increasing indexes ready.rising);
+  begun = from_is_late time indexes (Climbs-from_increasing indexes ready.rising);
   rising = IsStrictlyIncreasing-drop (count_before time indexes) indexes ready.rising;
 }
 

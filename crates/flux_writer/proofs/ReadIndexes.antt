@@ -1,5 +1,5 @@
 -- The Index blocks of a written stream are read at the index times that were given.
-use Rattle.std.proofs.Common.{◌≡◌, ◌≤◌, ◌<◌, ◌+◌, ◌-◌, ◌*◌, ◌/◌, ◌%◌, ◌++◌, ℕ, zero, suc, List, [], ◌∷◌, All, length, map, get_or, replicate, refl, ap, sym, ◌∙◌, subst, arith, append_assoc}
+use Rattle.std.proofs.Common.{◌≡◌, ◌≤◌, ◌<◌, ◌+◌, ◌-◌, ◌*◌, ◌/◌, ◌%◌, ◌++◌, ℕ, zero, suc, List, [], ◌∷◌, All, length, map, get_or, replicate, refl, ap, sym, ◌∙◌, subst, arith, append_assoc, append-nil}
 use Rattle.std.proofs.lemmas.List.{map-append}
 use Rattle.std.proofs.lemmas.List.Elements.{All-head, All-tail, All-take}
 use Rattle.std.proofs.lemmas.List.Sums.{sum_by-append, sum_by-cons}
@@ -9,11 +9,11 @@ use Rattle.kryo_stream.specs.Bench.{stream_step}
 use Rattle.kryo_stream.specs.Stream.{in_stream_bytes, block_ticks, ticks}
 use Rattle.kryo_stream.specs.Sequence.{spellings, spelled, all_spelled, IsTurnAt, TurnsAre}
 use Rattle.flux_writer.specs.Written.{index_block, interval_blocks}
-use Rattle.flux_writer.specs.inside.Writing.{count_before, indexes_before, indexes_from, last_blocks, many_blocks, next_position, position_after, indexes_after}
+use Rattle.flux_writer.specs.Trailing.{trailing_block}
+use Rattle.flux_writer.specs.inside.Writing.{count_before, indexes_before, indexes_from, last_blocks, many_blocks, next_position, position_after, time_after, indexes_after}
 use Rattle.flux_writer.proofs.Steps.{length-flux_spelling}
-use Rattle.flux_writer.proofs.Rising.{Rises-from, before-from, from_is_late, front_is_early}
+use Rattle.flux_writer.proofs.Rising.{Climbs, Climbs-from, before-from, from_is_late, front_is_early}
 use Rattle.flux_writer.proofs.Stands.{InOrder, interval_takes}
-use Rattle.flux_writer.specs.lemmas.FoundOnes.{Rises}
 
 -- the in-stream bytes and the ticks of blocks
 abbrev pub moved : List Block → ℕ
@@ -133,35 +133,123 @@ turns_of_interval all t cs ts turns =
     subst (λ bs. TurnsAre all bs ts) (sym (append_assoc (replicate (t / 65536) Overflow) (Flux (t % 65536) ∷ []) cs))
     (turns_of_overflows all (t / 65536) (Flux (t % 65536) ∷ cs) ts turns)
 
-pub read_many : (done : List Block) (position begin : ℕ) (times indexes : List ℕ) → moved done ≡ position → passed done ≡ begin
-    → InOrder begin times → All (λ index. begin ≤ index) indexes → Rises indexes → indexes_after times indexes ≡ []
-    → TurnsAre (done ++ (many_blocks position begin times indexes ++ last_blocks (position_after position begin times)))
-    (many_blocks position begin times indexes ++ last_blocks (position_after position begin times)) indexes
-read_many done position begin [] indexes at now order begun rises over = over
-read_many done position begin (t ∷ ts) indexes at now order begun rises over =
+-- the Index blocks of several transitions, and those of what stands after them
+pub read_many : (done : List Block) (position begin : ℕ) (times indexes : List ℕ) (cs : List Block) → moved done ≡ position → passed done ≡ begin
+    → InOrder begin times → All (λ index. begin ≤ index) indexes → Climbs indexes
+    → TurnsAre (done ++ (many_blocks position begin times indexes ++ cs)) cs (indexes_after times indexes)
+    → TurnsAre (done ++ (many_blocks position begin times indexes ++ cs)) (many_blocks position begin times indexes ++ cs) indexes
+read_many done position begin [] indexes cs at now order begun rises over = over
+read_many done position begin (t ∷ ts) indexes cs at now order begun rises over =
     let front = map (index_block position begin) (indexes_before t indexes) in
     let interval = interval_blocks (t - begin) in
     let next = next_position position begin t in
     let behind = indexes_from t indexes in
     let rest = many_blocks next t ts behind in
-    let last = last_blocks (position_after next t ts) in
     let more = done ++ (front ++ interval) in
-    let flat : (front ++ interval) ++ (rest ++ last) ≡ front ++ (interval ++ (rest ++ last)) = append_assoc front interval (rest ++ last) in
-    let blocks : ((front ++ interval) ++ rest) ++ last ≡ front ++ (interval ++ (rest ++ last)) =
-    append_assoc (front ++ interval) rest last ∙ flat in
-    let all = done ++ (front ++ (interval ++ (rest ++ last))) in
-    let same : more ++ (rest ++ last) ≡ all = append_assoc done (front ++ interval) (rest ++ last) ∙ ap (λ bs. done ++ bs) flat in
+    let flat : (front ++ interval) ++ (rest ++ cs) ≡ front ++ (interval ++ (rest ++ cs)) = append_assoc front interval (rest ++ cs) in
+    let blocks : ((front ++ interval) ++ rest) ++ cs ≡ front ++ (interval ++ (rest ++ cs)) =
+    append_assoc (front ++ interval) rest cs ∙ flat in
+    let all = done ++ (front ++ (interval ++ (rest ++ cs))) in
+    let same : more ++ (rest ++ cs) ≡ all = append_assoc done (front ++ interval) (rest ++ cs) ∙ ap (λ bs. done ++ bs) flat in
     let at_next : moved more ≡ next =
     omega (arith, at, moved-append done (front ++ interval), moved-append front interval, moved_indexes position begin (indexes_before t indexes), moved_interval (t - begin)) in
     let now_next : passed more ≡ t =
     omega (arith, now, order.0, passed-append done (front ++ interval), passed-append front interval, passed_indexes position begin (indexes_before t indexes), passed_interval (t - begin)) in
-    let later : TurnsAre all (rest ++ last) behind =
-    subst (λ w. TurnsAre w (rest ++ last) behind) same
-    (read_many more next t ts behind at_next now_next order.1 (from_is_late t indexes rises) (Rises-from t indexes rises) over) in
+    let whole : all ≡ done ++ (((front ++ interval) ++ rest) ++ cs) = ap (λ bs. done ++ bs) (sym blocks) in
+    let later : TurnsAre all (rest ++ cs) behind =
+    subst (λ w. TurnsAre w (rest ++ cs) behind) same
+    (read_many more next t ts behind cs at_next now_next order.1 (from_is_late t indexes rises) (Climbs-from t indexes rises)
+    (subst (λ w. TurnsAre w cs (indexes_after ts behind)) (sym (same ∙ whole)) over)) in
     let here : All (λ x. IsTurnAt all (position + (x - begin) / 65536) ((x - begin) % 65536) x) (indexes_before t indexes) =
-    λ i d below. index_here done position begin at now (indexes_before t indexes) t (rest ++ last) (get_or (indexes_before t indexes) i d)
+    λ i d below. index_here done position begin at now (indexes_before t indexes) t (rest ++ cs) (get_or (indexes_before t indexes) i d)
     (All-take (λ index. begin ≤ index) (count_before t indexes) indexes begun i d below) (front_is_early t indexes i d below) in
-    let found = read_indexes all position begin (indexes_before t indexes) behind (interval ++ (rest ++ last)) here
-    (turns_of_interval all (t - begin) (rest ++ last) behind later) in
+    let found = read_indexes all position begin (indexes_before t indexes) behind (interval ++ (rest ++ cs)) here
+    (turns_of_interval all (t - begin) (rest ++ cs) behind later) in
     subst (λ bs. TurnsAre (done ++ bs) bs indexes) (sym blocks)
-    (subst (TurnsAre all (front ++ (interval ++ (rest ++ last)))) (before-from t indexes) found)
+    (subst (TurnsAre all (front ++ (interval ++ (rest ++ cs)))) (before-from t indexes) found)
+
+-- the in-stream bytes and the ticks of several transitions
+moved_many : (position begin : ℕ) (ts xs : List ℕ) → position + moved (many_blocks position begin ts xs) ≡ position_after position begin ts
+moved_many position begin [] xs = omega arith
+moved_many position begin (t ∷ ts) xs =
+    let front = map (index_block position begin) (indexes_before t xs) in
+    let interval = interval_blocks (t - begin) in
+    let next = next_position position begin t in
+    let rest = many_blocks next t ts (indexes_from t xs) in
+    omega (
+      arith,
+      moved_many next t ts (indexes_from t xs),
+      moved-append (front ++ interval) rest,
+      moved-append front interval,
+      moved_indexes position begin (indexes_before t xs),
+      moved_interval (t - begin),
+    )
+
+passed_many : (position begin : ℕ) (ts xs : List ℕ) → InOrder begin ts → begin + passed (many_blocks position begin ts xs) ≡ time_after begin ts
+passed_many position begin [] xs order = omega arith
+passed_many position begin (t ∷ ts) xs order =
+    let front = map (index_block position begin) (indexes_before t xs) in
+    let interval = interval_blocks (t - begin) in
+    let next = next_position position begin t in
+    let rest = many_blocks next t ts (indexes_from t xs) in
+    omega (
+      arith,
+      order.0,
+      passed_many next t ts (indexes_from t xs) order.1,
+      passed-append (front ++ interval) rest,
+      passed-append front interval,
+      passed_indexes position begin (indexes_before t xs),
+      passed_interval (t - begin),
+    )
+
+-- what stands behind the last transition moves neither
+moved_ending : (position last : ℕ) (left : List ℕ) → moved (map (trailing_block position last) left ++ last_blocks position) ≡ 0
+moved_ending position last [] = refl
+moved_ending position last (x ∷ xs) =
+    omega (
+      arith,
+      moved-cons (trailing_block position last x) (map (trailing_block position last) xs ++ last_blocks position),
+      moved_ending position last xs,
+    )
+
+passed_ending : (position last : ℕ) (left : List ℕ) → passed (map (trailing_block position last) left ++ last_blocks position) ≡ 0
+passed_ending position last [] = refl
+passed_ending position last (x ∷ xs) =
+    omega (
+      arith,
+      passed-cons (trailing_block position last x) (map (trailing_block position last) xs ++ last_blocks position),
+      passed_ending position last xs,
+    )
+
+-- all blocks, of which the Index blocks at the end name the place behind the last byte
+module _ (all : List Block) (position last : ℕ) (bytes : moved all ≡ position) (time : passed all ≡ last) where
+  turn_at_end : (x : ℕ) → last ≤ x → IsTurnAt all position (x - last) x
+  turn_at_end x late = record {
+    before = all;
+    behind = [];
+    whole = append-nil all;
+    from = omega (arith, bytes);
+    to = sym bytes;
+    time_is = omega (arith, time, late);
+  }
+
+  pub read_ending : (left : List ℕ) → All (λ x. last ≤ x) left → TurnsAre all (map (trailing_block position last) left ++ last_blocks position) left
+  read_ending [] late = refl
+  read_ending (x ∷ xs) late =
+      (turn_at_end x (All-head (λ y. last ≤ y) x xs late), read_ending xs (All-tail (λ y. last ≤ y) x xs late))
+
+pub bytes_of_all : (ts xs left : List ℕ)
+    → moved (many_blocks 0 0 ts xs ++ (map (trailing_block (position_after 0 0 ts) (time_after 0 ts)) left ++ last_blocks (position_after 0 0 ts)))
+    ≡ position_after 0 0 ts
+bytes_of_all ts xs left =
+    let p = position_after 0 0 ts in
+    let ending = map (trailing_block p (time_after 0 ts)) left ++ last_blocks p in
+    omega (arith, moved-append (many_blocks 0 0 ts xs) ending, moved_many 0 0 ts xs, moved_ending p (time_after 0 ts) left)
+
+pub time_of_all : (ts xs left : List ℕ) → InOrder 0 ts
+    → passed (many_blocks 0 0 ts xs ++ (map (trailing_block (position_after 0 0 ts) (time_after 0 ts)) left ++ last_blocks (position_after 0 0 ts)))
+    ≡ time_after 0 ts
+time_of_all ts xs left order =
+    let p = position_after 0 0 ts in
+    let ending = map (trailing_block p (time_after 0 ts)) left ++ last_blocks p in
+    omega (arith, passed-append (many_blocks 0 0 ts xs) ending, passed_many 0 0 ts xs order, passed_ending p (time_after 0 ts) left)

@@ -9,7 +9,7 @@ use Rattle.flux_writer.specs.Written.{index_block, interval_blocks, stream_of_ti
 use Rattle.flux_writer.specs.inside.Writing.{count_before, indexes_before, indexes_from, last_blocks, many_blocks, next_position, position_after, time_after, indexes_after}
 use Rattle.flux_writer.specs.Reading.{EndsWithTransition}
 use Rattle.flux_writer.proofs.Steps.{spellings-append, indexes_from-yes}
-use Rattle.flux_writer.proofs.Rising.{Rises-from_increasing}
+use Rattle.flux_writer.proofs.Rising.{Rises-from_increasing, Climbs-from_increasing}
 use Rattle.flux_writer.proofs.Equal.{all_blocks, stream_blocks-is}
 use Rattle.flux_writer.proofs.Stands.{stand_many, InOrder-from_sorted}
 use Rattle.flux_writer.proofs.ReadTimes.{times_of_many}
@@ -18,7 +18,7 @@ use Rattle.flux_writer.specs.lemmas.FoundOnes.{Rises}
 use Rattle.kryo_stream.specs.lemmas.Standing.{Stand, Stand-each}
 
 -- the stream position after some transitions is at most the number of their bytes
-position_within : (position begin : ℕ) (ts indexes : List ℕ)
+pub position_within : (position begin : ℕ) (ts indexes : List ℕ)
     → position_after position begin ts ≤ position + length (spellings (many_blocks position begin ts indexes))
 position_within position begin [] indexes = omega arith
 position_within position begin (t ∷ ts) indexes =
@@ -61,7 +61,7 @@ last-is t (u ∷ ts) =
     ap (λ n. get_or (t ∷ u ∷ ts) n 0) last ∙ last-is u ts
 
 -- no index time is left after the last transition
-all_written : (ts xs : List ℕ) → IsStrictlyIncreasing xs → EndsWithTransition ts xs → 0 < length xs → indexes_after ts xs ≡ []
+pub all_written : (ts xs : List ℕ) → IsStrictlyIncreasing xs → EndsWithTransition ts xs → 0 < length xs → indexes_after ts xs ≡ []
 all_written [] xs rising ends some = absurd (let before = ends some in omega (arith, before))
 all_written (t ∷ ts) xs rising ends some =
     nothing_left t ts xs (all_early xs (time_after t ts) (Rises-from_increasing xs rising)
@@ -92,8 +92,8 @@ blocks_in_order ts xs order rising ends two short =
     record {
       limit = short;
       each = λ before block behind is. Stand-each [] before block behind (subst (Stand 0 false) (sym is) (stand_many 0 0 ts xs fits));
-      turns_are = read_many [] 0 0 ts xs refl refl (InOrder-from_sorted 0 ts (from_zero ts order)) (λ k d below. omega arith)
-          (Rises-from_increasing xs rising) (all_written ts xs rising ends (omega (arith, two)));
+      turns_are = read_many [] 0 0 ts xs last refl refl (InOrder-from_sorted 0 ts (from_zero ts order)) (λ k d below. omega arith)
+          (Climbs-from_increasing xs rising) (all_written ts xs rising ends (omega (arith, two)));
       enough = two;
       order = rising;
     }

@@ -1,7 +1,7 @@
 -- Index times that rise, before a time and after it.
 use Rattle.std.proofs.Common.{◌≡◌, ◌≤◌, ◌<◌, ◌+◌, ◌++◌, ℕ, suc, Bool, true, false, cond, List, [], ◌∷◌, All, drop, get_or, nat_lt, refl, ap, sym, ◌∙◌, subst, arith, length-drop, inl, inr}
 use Rattle.std.specs.List.{filter, AllPairs}
-use Rattle.std.specs.List.Sorted.{IsStrictlyIncreasing}
+use Rattle.std.specs.List.Sorted.{IsNonDecreasing, IsStrictlyIncreasing}
 use Rattle.std.proofs.lemmas.Bool.{cases_lt}
 use Rattle.std.proofs.lemmas.Bool.Decides.{nat_tests}
 use Rattle.std.proofs.lemmas.List.{get_or-drop, take-append-drop}
@@ -32,20 +32,40 @@ IsStrictlyIncreasing-drop n xs rising k within =
       rising (n + k) (omega (arith, length-drop n xs, within)),
     )
 
+-- none is below one before it
+abbrev pub Climbs : List ℕ → Type 0
+Climbs [] = Unit {0}
+Climbs (x ∷ xs) = All (λ y. x ≤ y) xs × Climbs xs
+
+pub Climbs-from_sorted : (xs : List ℕ) → IsNonDecreasing xs → Climbs xs
+Climbs-from_sorted [] order = tt
+Climbs-from_sorted (x ∷ xs) order = (
+  (λ k d below. order 0 (suc k) d (omega arith) (omega arith)),
+  Climbs-from_sorted xs (λ i j d before within. order (suc i) (suc j) d (omega arith) (omega arith)),
+)
+
+Climbs-from_rises : (xs : List ℕ) → Rises xs → Climbs xs
+Climbs-from_rises [] rises = tt
+Climbs-from_rises (x ∷ xs) rises =
+    (All-weaker (λ y. x < y) (λ y. x ≤ y) (λ y later. omega (arith, later)) xs rises.0, Climbs-from_rises xs rises.1)
+
+pub Climbs-from_increasing : (xs : List ℕ) → IsStrictlyIncreasing xs → Climbs xs
+Climbs-from_increasing xs rising = Climbs-from_rises xs (Rises-from_increasing xs rising)
+
 -- those after a time are not before it
-pub from_is_late : (time : ℕ) (xs : List ℕ) → Rises xs → All (λ x. time ≤ x) (indexes_from time xs)
+pub from_is_late : (time : ℕ) (xs : List ℕ) → Climbs xs → All (λ x. time ≤ x) (indexes_from time xs)
 from_is_late time [] rises = All-nil (λ x. time ≤ x)
 from_is_late time (x ∷ xs) rises = elim (cases_lt x time) [
   | inl before ↦ subst (All (λ y. time ≤ y)) (sym (indexes_from-yes time x xs before)) (from_is_late time xs rises.1)
   | inr behind ↦ subst (All (λ y. time ≤ y)) (sym (indexes_from-no time x xs behind))
-      (All-cons (λ y. time ≤ y) x xs behind (All-weaker (λ y. x < y) (λ y. time ≤ y) (λ y later. omega (arith, later, behind)) xs rises.0))
+      (All-cons (λ y. time ≤ y) x xs behind (All-weaker (λ y. x ≤ y) (λ y. time ≤ y) (λ y later. omega (arith, later, behind)) xs rises.0))
 ]
 
-pub Rises-from : (time : ℕ) (xs : List ℕ) → Rises xs → Rises (indexes_from time xs)
-Rises-from time [] rises = tt
-Rises-from time (x ∷ xs) rises = elim (cases_lt x time) [
-  | inl before ↦ subst Rises (sym (indexes_from-yes time x xs before)) (Rises-from time xs rises.1)
-  | inr behind ↦ subst Rises (sym (indexes_from-no time x xs behind)) rises
+pub Climbs-from : (time : ℕ) (xs : List ℕ) → Climbs xs → Climbs (indexes_from time xs)
+Climbs-from time [] rises = tt
+Climbs-from time (x ∷ xs) rises = elim (cases_lt x time) [
+  | inl before ↦ subst Climbs (sym (indexes_from-yes time x xs before)) (Climbs-from time xs rises.1)
+  | inr behind ↦ subst Climbs (sym (indexes_from-no time x xs behind)) rises
 ]
 
 -- none passes the test
@@ -63,7 +83,7 @@ filter-same p q (x ∷ xs) same =
     ∙ ap (λ rest. cond (q x) (x ∷ rest) rest) (filter-same p q xs (All-tail (λ y. p y ≡ q y) x xs same))
 
 -- of numbers that rise, those below a time are the ones at the front
-pub filter-before : (time : ℕ) (xs : List ℕ) → Rises xs → filter (λ x. nat_lt x time) xs ≡ indexes_before time xs
+pub filter-before : (time : ℕ) (xs : List ℕ) → Climbs xs → filter (λ x. nat_lt x time) xs ≡ indexes_before time xs
 filter-before time [] rises = refl
 filter-before time (x ∷ xs) rises = elim (cases_lt x time) [
   | inl before ↦
@@ -73,7 +93,7 @@ filter-before time (x ∷ xs) rises = elim (cases_lt x time) [
   | inr behind ↦
       filter-none (λ y. nat_lt y time) (x ∷ xs)
       (All-cons (λ y. nat_lt y time ≡ false) x xs (grind (arith, nat_tests, behind))
-      (All-weaker (λ y. x < y) (λ y. nat_lt y time ≡ false) (λ y later. grind (arith, nat_tests, behind, later)) xs rises.0))
+      (All-weaker (λ y. x ≤ y) (λ y. nat_lt y time ≡ false) (λ y later. grind (arith, nat_tests, behind, later)) xs rises.0))
       ∙ sym (indexes_before-no time x xs behind)
 ]
 

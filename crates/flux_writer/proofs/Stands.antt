@@ -1,18 +1,15 @@
 -- The blocks of a written stream may stand where they stand.
-use Rattle.std.proofs.Common.{◌≡◌, ◌≤◌, ◌<◌, ◌+◌, ◌-◌, ◌/◌, ◌%◌, ◌++◌, ◌||◌, ℕ, zero, suc, Bool, true, false, List, [], ◌∷◌, All, length, map, replicate, refl, ap, sym, ◌∙◌, subst, arith, append_assoc, append-nil, length-append, ◌↔◌}
+use Rattle.std.proofs.Common.{◌≡◌, ◌≤◌, ◌<◌, ◌+◌, ◌-◌, ◌/◌, ◌%◌, ◌++◌, ℕ, zero, suc, false, List, [], ◌∷◌, All, length, map, replicate, refl, ap, sym, ◌∙◌, subst, arith, append_assoc, length-append}
 use Rattle.std.specs.List.Sorted.{IsNonDecreasing}
-use Rattle.std.proofs.lemmas.List.{length-replicate, map-append}
+use Rattle.std.proofs.lemmas.List.{length-replicate}
 use Rattle.std.proofs.lemmas.List.Elements.{All-head, All-tail}
-use Rattle.std.proofs.lemmas.List.Folds.{list_any-append}
-use Rattle.std.proofs.lemmas.List.Sums.{sum_by-append, sum_by-cons}
 use Rattle.kryo_stream.specs.declared.block.Block.{Block}
 use Rattle.kryo_stream.specs.declared.block.Block.TheVariants.{Flux, Overflow}
-use Rattle.kryo_stream.specs.Bench.{stream_step}
-use Rattle.kryo_stream.specs.Spelling.{flux_spelling, IsWritable}
-use Rattle.kryo_stream.specs.Stream.{in_stream_bytes, is_stream_end, has_ended, is_end}
+use Rattle.kryo_stream.specs.Spelling.{flux_spelling}
 use Rattle.kryo_stream.specs.lemmas.Standing.{Stand, is_empty}
-use Rattle.kryo_stream.specs.Sequence.{spellings, spelled, all_spelled, StandsBetween}
+use Rattle.kryo_stream.specs.Sequence.{spellings}
 use Rattle.flux_writer.specs.Written.{index_block, interval_blocks}
+use Rattle.flux_writer.specs.Trailing.{trailing_block}
 use Rattle.flux_writer.specs.inside.Writing.{indexes_before, indexes_from, last_blocks, many_blocks, next_position, position_after}
 use Rattle.flux_writer.proofs.Steps.{spellings-interval}
 use Rattle.flux_writer.proofs.Rising.{front_is_early}
@@ -73,19 +70,46 @@ stand_interval ticks position cs more stand =
     subst (Stand position false) (sym (append_assoc (replicate n Overflow) (Flux r ∷ []) cs))
     (stand_overflows n position (Flux r ∷ cs) refl (omega arith, refl, sym more, subst (λ m. Stand m false cs) at stand))
 
-pub stand_many : (position begin : ℕ) (times indexes : List ℕ) → position_after position begin times < 4294967296
-    → Stand position false (many_blocks position begin times indexes ++ last_blocks (position_after position begin times))
-stand_many position begin [] indexes fits = ((fits, omega arith), (refl, refl), refl, (tt, tt, refl, tt))
-stand_many position begin (t ∷ ts) indexes fits =
+-- the blocks of several transitions may stand before what may stand after them
+pub stand_before : (position begin : ℕ) (times indexes : List ℕ) (cs : List Block) → position_after position begin times < 4294967296
+    → is_empty cs ≡ false → Stand (position_after position begin times) false cs
+    → Stand position false (many_blocks position begin times indexes ++ cs)
+stand_before position begin [] indexes cs fits more stand = stand
+stand_before position begin (t ∷ ts) indexes cs fits more stand =
     let front = map (index_block position begin) (indexes_before t indexes) in
     let interval = interval_blocks (t - begin) in
     let rest = many_blocks (next_position position begin t) t ts (indexes_from t indexes) in
-    let last = last_blocks (position_after (next_position position begin t) t ts) in
     let bound = position_after-le (next_position position begin t) t ts in
-    let some : is_empty (rest ++ last) ≡ false = not_empty rest last refl in
-    subst (Stand position false) (sym (append_assoc (front ++ interval) rest last))
-    (subst (Stand position false) (sym (append_assoc front interval (rest ++ last)))
-    (stand_indexes position begin (indexes_before t indexes) (interval ++ (rest ++ last))
+    let some : is_empty (rest ++ cs) ≡ false = not_empty rest cs more in
+    subst (Stand position false) (sym (append_assoc (front ++ interval) rest cs))
+    (subst (Stand position false) (sym (append_assoc front interval (rest ++ cs)))
+    (stand_indexes position begin (indexes_before t indexes) (interval ++ (rest ++ cs))
     (λ k d below. let early = front_is_early t indexes k d below in omega (arith, early, bound, fits, interval_takes (t - begin)))
-    (not_empty interval (rest ++ last) some)
-    (stand_interval (t - begin) position (rest ++ last) some (stand_many (next_position position begin t) t ts (indexes_from t indexes) fits))))
+    (not_empty interval (rest ++ cs) some)
+    (stand_interval (t - begin) position (rest ++ cs) some
+    (stand_before (next_position position begin t) t ts (indexes_from t indexes) cs fits more stand))))
+
+stand_last : (position : ℕ) → position < 4294967296 → Stand position false (last_blocks position)
+stand_last position fits = ((fits, omega arith), (refl, refl), refl, (tt, tt, refl, tt))
+
+-- the Index blocks of the index times that are left, and the end
+pub stand_ending : (position last : ℕ) (left : List ℕ) → position < 4294967296 → All (λ x. x - last < 4294967296) left
+    → Stand position false (map (trailing_block position last) left ++ last_blocks position)
+stand_ending position last [] fits near = stand_last position fits
+stand_ending position last (x ∷ xs) fits near =
+    let rest = map (trailing_block position last) xs ++ last_blocks position in
+    let same : position ≡ position + 0 = omega arith in (
+      (fits, All-head (λ y. y - last < 4294967296) x xs near, omega arith),
+      tt,
+      sym (not_empty (map (trailing_block position last) xs) (last_blocks position) refl),
+      subst (λ n. Stand n false rest) same (stand_ending position last xs fits (All-tail (λ y. y - last < 4294967296) x xs near)),
+    )
+
+pub ending_some : (position last : ℕ) (left : List ℕ) → is_empty (map (trailing_block position last) left ++ last_blocks position) ≡ false
+ending_some position last left = not_empty (map (trailing_block position last) left) (last_blocks position) refl
+
+pub stand_many : (position begin : ℕ) (times indexes : List ℕ) → position_after position begin times < 4294967296
+    → Stand position false (many_blocks position begin times indexes ++ last_blocks (position_after position begin times))
+stand_many position begin times indexes fits =
+    let end = position_after position begin times in
+    stand_before position begin times indexes (last_blocks end) fits refl (stand_last end fits)

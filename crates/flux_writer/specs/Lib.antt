@@ -1,4 +1,5 @@
 pub mod Written
+pub mod Trailing
 pub mod Reading
 pub mod inside
 pub mod lemmas

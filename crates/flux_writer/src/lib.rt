@@ -12,6 +12,7 @@ mod stream;
 mod times;
 mod track;
 
-pub use laws::{track_law, turns_law, written_law};
+pub use laws::{capture_law, track_law, turns_law, written_law};
+pub use stream::interval_length;
 pub use times::write_times;
 pub use track::{write_track, write_turns};

@@ -125,9 +125,9 @@ impl<'a> StreamWriter<'a> {
     }
 }
 
-/// How many bytes the blocks of an interval of so many ticks take.
+/// How many bytes the blocks of an interval of so many ticks take, in a stream that is written.
 #[inline]
-fn interval_length(ticks: u64) -> u32
+pub fn interval_length(ticks: u64) -> u32
     requires few { ticks / 65536 + 3 < 2 ^ 32 }
     ensures value { result ≡ length (spellings (interval_blocks ticks)) }
     ensures most { result ≤ ticks / 65536 + 3 }
