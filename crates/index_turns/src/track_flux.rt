@@ -144,6 +144,37 @@ impl TrackFlux {
         end
     }
 
+    /// Appends the times of the first `count` transitions of a run, as `push_run_reserved` does. There is room for those
+    /// of `row` of them: as many are put down, and those behind the first are taken back. Where `row` is known
+    /// beforehand that takes less than a loop whose end is not.
+    #[inline(always)]
+    pub fn push_front_reserved(
+        &mut self,
+        start: u64,
+        intervals: &[u8],
+        row: usize,
+        count: usize,
+    ) -> u64
+        requires order { All (λ earlier. earlier ≤ start) self.old.times }
+        requires within { start + 255 * row < 2 ^ 64 }
+        requires row { row ≤ length intervals.now }
+        requires room { row ≤ self.old.spare_times }
+        requires some { 1 ≤ count }
+        requires few { count ≤ row }
+        ensures times { self.new.times ≡ self.old.times ++ times_after start (take count intervals.now) }
+        ensures end { result ≡ start + sum (take count intervals.now) }
+        ensures indexes { self.new.indexes ≡ self.old.indexes }
+        ensures room { KeepsRoom self.old self.new }
+        ensures spare_times { self.new.spare_times + count ≡ self.old.spare_times }
+        ensures spare_indexes { self.new.spare_indexes ≡ self.old.spare_indexes }
+    {
+        let nothing = Vec::new(*self.times.allocator());
+        let times = mem::replace(&mut self.times, nothing);
+        let (times, end) = append_front(times, start, intervals, row, count);
+        self.times = times;
+        end
+    }
+
     /// Takes all out, the room too, and leaves a track without transitions and without turns.
     pub fn take(&mut self) -> TrackFlux
         ensures value { result ≡ self.old }
@@ -254,4 +285,31 @@ fn append_run(mut times: Vec<u64>, start: u64, intervals: &[u8]) -> (Vec<u64>, u
         times.push_reserved(time);
     }
     (times, time)
+}
+
+/// Appends the times of the first `count` transitions of a run to a list that has room for those of `row` of them, and
+/// gives the last of the first.
+#[inline(always)]
+fn append_front(
+    times: Vec<u64>,
+    start: u64,
+    intervals: &[u8],
+    row: usize,
+    count: usize,
+) -> (Vec<u64>, u64)
+    requires row { row ≤ length intervals.now }
+    requires room { vec_len times + row ≤ vec_capacity times }
+    requires within { start + 255 * row < 2 ^ 64 }
+    requires some { 1 ≤ count }
+    requires few { count ≤ row }
+    ensures items { result.0.items ≡ times.items ++ times_after start (take count intervals.now) }
+    ensures len { vec_len result.0 ≡ vec_len times + count }
+    ensures capacity { vec_capacity result.0 ≡ vec_capacity times }
+    ensures end { result.1 ≡ start + sum (take count intervals.now) }
+{
+    let len = times.len() + count;
+    let (mut front, _) = append_run(times, start, &intervals[..row]);
+    front.truncate(len);
+    let end = front[len - 1];
+    (front, end)
 }
