@@ -82,11 +82,11 @@ rest_of bytes rest place size inside =
 abbrev pub part : List ℕ → ℕ → List ℕ
 part bytes place = take (length bytes - place) (drop place bytes)
 
-part_length : (bytes : List ℕ) (place : ℕ) → length (part bytes place) ≡ length bytes - place
+pub part_length : (bytes : List ℕ) (place : ℕ) → length (part bytes place) ≡ length bytes - place
 part_length bytes place = ap length (take_rest bytes place) ∙ length-drop place bytes
 
 -- a row of them is as long as it is said to be, and lies within the bytes
-pub row_inside : (bytes : List ℕ) (place count : ℕ) → place ≤ length bytes → count ≤ length (part bytes place)
+row_inside : (bytes : List ℕ) (place count : ℕ) → place ≤ length bytes → count ≤ length (part bytes place)
     → (length (take count (part bytes place)) ≡ count) × (place + count ≤ length bytes)
 row_inside bytes place count inside few =
     (omega (arith, length-take count (part bytes place), few), omega (arith, few, part_length bytes place, inside))
@@ -101,12 +101,12 @@ keeps_roomy {x} {n} {bytes} {b} {old} {mid} {bench} {bmid} {place} {time} rest r
 pub keeps_row : {bytes : List ℕ} {b : Before} {old mid new : TrackState} {bench bmid bnew : BenchState} {place time place' time' : ℕ} (count : ℕ)
     → KeepsFlux bytes b old mid bench bmid place time → b.ended ≡ false → b.offset + length bytes ≤ LIMIT
     → count ≤ length (part bytes place) → All IsShortFlux (take count (part bytes place))
-    → AddsTimes (length (take count (part bytes place))) (times_after time (take count (part bytes place))) mid new
-    → AddsEnds (length (take count (part bytes place))) (range_with_len (b.counted + place + 1) (length (take count (part bytes place)))) bmid bnew
-    → place' ≡ place + length (take count (part bytes place)) → time' ≡ time + sum (take count (part bytes place))
+    → AddsTimes count (times_after time (take count (part bytes place))) mid new
+    → AddsEnds count (range_with_len (b.counted + place + 1) count) bmid bnew
+    → place' ≡ place + count → time' ≡ time + sum (take count (part bytes place))
     → KeepsFlux bytes b old new bench bnew place' time'
-keeps_row {bytes} {b} {old} {mid} {new} {bench} {bmid} {bnew} {place} {time} {place'} {time'} count kept ended limit few short times ends place_is time_is =
-    subst (λ p. KeepsFlux bytes b old new bench bnew p time') (sym place_is)
+keeps_row {bytes} {b} {old} {mid} {new} {bench} {bmid} {bnew} {place} {time} {place'} {time'} count kept ended limit few short added more_ends place_is time_is =
+    subst (λ p. KeepsFlux bytes b old new bench bnew p time') (ap (λ (n : ℕ). place + n) size ∙ sym place_is)
     (keeps_more bytes b old mid new bench bmid bnew place time (length row) (length row) time' (times_after time row)
     (range_with_len (b.counted + place + 1) (length row)) kept (omega arith) inside (length-times_after time row)
     (length-ends (b.counted + place + 1) (length row)) times ends reads)
@@ -116,6 +116,12 @@ keeps_row {bytes} {b} {old} {mid} {new} {bench} {bmid} {bnew} {place} {time} {pl
 
     size : length row ≡ count
     size = (row_inside bytes place count kept.inside few).0
+
+    times : AddsTimes (length row) (times_after time row) mid new
+    times = subst (λ (n : ℕ). AddsTimes n (times_after time row) mid new) (sym size) added
+
+    ends : AddsEnds (length row) (range_with_len (b.counted + place + 1) (length row)) bmid bnew
+    ends = subst (λ (n : ℕ). AddsEnds n (range_with_len (b.counted + place + 1) n) bmid bnew) (sym size) more_ends
 
     inside : place + length row ≤ length bytes
     inside = omega (arith, size, (row_inside bytes place count kept.inside few).1)

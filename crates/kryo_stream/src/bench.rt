@@ -151,17 +151,18 @@ impl StreamBench {
         self.ends.push_reserved(end);
     }
 
-    /// Takes note of a run of transitions of one byte, for which there is room. The first of them begins at this stream
-    /// position.
+    /// Takes note of the first `count` of a run of transitions of one byte, for all of which there is room. The first of
+    /// them begins at this stream position.
     #[inline(always)]
-    pub(crate) fn note_run(&mut self, position: u32, count: u32)
-        requires end { position + count < 2 ^ 32 }
-        requires room { count ≤ self.old.spare_ends }
+    pub(crate) fn note_front(&mut self, position: u32, run: u32, count: u32)
+        requires end { position + run < 2 ^ 32 }
+        requires room { run ≤ self.old.spare_ends }
+        requires inside { count ≤ run }
         ensures { AddsEnds count (range_with_len (position + 1) count) self.old self.new }
     {
         let nothing = Vec::new(*self.ends.allocator());
         let ends = mem::replace(&mut self.ends, nothing);
-        self.ends = append_ends(ends, position, count);
+        self.ends = append_front(ends, position, run, count);
     }
 
     /// Takes all out, the room too, and leaves a bench that holds nothing.
@@ -333,6 +334,23 @@ fn append_ends(mut ends: Vec<u32>, position: u32, count: u32) -> Vec<u32>
         ends.push_reserved(position + 1 + number);
     }
     ends
+}
+
+/// The same of the first `count` transitions of a run, where there is room for all of them: all are appended, and those
+/// behind are taken back.
+#[inline(always)]
+fn append_front(ends: Vec<u32>, position: u32, run: u32, count: u32) -> Vec<u32>
+    requires room { vec_len ends + run ≤ vec_capacity ends }
+    requires end { position + run < 2 ^ 32 }
+    requires inside { count ≤ run }
+    ensures items { result.items ≡ ends.items ++ range_with_len (position + 1) count }
+    ensures len { vec_len result ≡ vec_len ends + count }
+    ensures capacity { vec_capacity result ≡ vec_capacity ends }
+{
+    let len = ends.len() + count as usize;
+    let mut front = append_ends(ends, position, run);
+    front.truncate(len);
+    front
 }
 
 /// How many numbers of a rising list are at most the limit.

@@ -71,6 +71,7 @@ pub fn flux_reach(before: &Before, bytes: &[u8]) -> usize
 pub fn short_row(bytes: &[u8]) -> usize
     requires first { 14 ≤ get_or bytes.now 0 0 }
     ensures some { 1 ≤ result }
+    ensures few { result ≤ 16 }
     ensures inside { result ≤ length bytes.now }
     ensures short { All IsShortFlux (take result bytes.now) }
 {

@@ -1,4 +1,4 @@
-ghost use Rattle.std.specs.Prelude.{◌≡◌, ◌≤◌, ◌<◌, ◌+◌, ◌*◌, ◌^◌, ◌++◌, ◌∷◌, [], ℕ, List, All, length, false};
+ghost use Rattle.std.specs.Prelude.{◌≡◌, ◌≤◌, ◌<◌, ◌+◌, ◌*◌, ◌^◌, ◌++◌, ◌∷◌, [], ℕ, List, All, length, take, false};
 ghost use Rattle.std.specs.List.{range_with_len, sum};
 ghost use Rattle.index_turns.specs.Track.{times_after};
 ghost use Rattle.kryo_stream.specs.inside.Keeping.{AddsTimes, AddsEnds, KeepsFlux};
@@ -8,6 +8,9 @@ use crate::before::Before;
 use crate::bench::StreamBench;
 use crate::front::{LANES, LongFlux, long_flux, short_row};
 use index_turns::TrackFlux;
+
+/// Half of the bytes that are looked at at once: rows are seldom longer where there are transitions of two bytes.
+const HALF: usize = 8;
 
 /// What is kept of the transitions that some bytes begin with.
 #[derive(Drop)]
@@ -42,7 +45,7 @@ pub fn keep_flux(before: &Before, flux: TrackFlux, bench: StreamBench, bytes: &[
     loop {
         let rest = &bytes[kept.place..];
         if let [0x0E..=0xFF, ..] = rest {
-            kept.keep_row(begin, &rest[..short_row(rest)]);
+            kept.keep_row(begin, rest, short_row(rest));
             continue;
         }
         match long_flux(rest) {
@@ -53,46 +56,58 @@ pub fn keep_flux(before: &Before, flux: TrackFlux, bench: StreamBench, bytes: &[
 }
 
 impl Kept {
-    /// Keeps a run of at most 16 transitions of one byte. `begin` is the stream position of the first of all bytes.
+    /// Keeps the transitions of one byte that the bytes begin with, so many of them. `begin` is the stream position of
+    /// the first of all bytes.
     #[inline(always)]
-    fn keep_row(&mut self, begin: u32, row: &[u8])
+    fn keep_row(&mut self, begin: u32, bytes: &[u8], count: usize)
         requires order { All (λ time. time ≤ self.old.time) self.old.flux.times }
-        requires within { self.old.time + 255 * length row.now < 2 ^ 64 }
-        requires end { begin + self.old.place + length row.now < 2 ^ 32 }
-        requires room { length row.now ≤ self.old.flux.spare_times }
-        requires bench { length row.now ≤ self.old.bench.spare_ends }
-        ensures flux { AddsTimes (length row.now) (times_after self.old.time row.now) self.old.flux self.new.flux }
-        ensures bench { AddsEnds (length row.now) (range_with_len (begin + self.old.place + 1) (length row.now))
-            self.old.bench self.new.bench }
-        ensures place { self.new.place ≡ self.old.place + length row.now }
-        ensures time { self.new.time ≡ self.old.time + sum row.now }
+        requires within { self.old.time + 255 * 16 < 2 ^ 64 }
+        requires end { begin + self.old.place + 16 < 2 ^ 32 }
+        requires room { length bytes.now ≤ self.old.flux.spare_times }
+        requires bench { length bytes.now ≤ self.old.bench.spare_ends }
+        requires some { 1 ≤ count }
+        requires few { count ≤ 16 }
+        requires inside { count ≤ length bytes.now }
+        ensures flux { AddsTimes count (times_after self.old.time (take count bytes.now)) self.old.flux self.new.flux }
+        ensures bench { AddsEnds count (range_with_len (begin + self.old.place + 1) count) self.old.bench
+            self.new.bench }
+        ensures place { self.new.place ≡ self.old.place + count }
+        ensures time { self.new.time ≡ self.old.time + sum (take count bytes.now) }
     {
         // Where the length is known the loops are unrolled.
-        if row.len() == LANES {
-            self.keep_run(begin, &row[..LANES]);
+        if bytes.len() < LANES {
+            self.keep_front(begin, bytes, count, count);
+        } else if count == LANES {
+            self.keep_front(begin, bytes, LANES, LANES);
+        } else if count > HALF {
+            self.keep_front(begin, bytes, LANES, count);
         } else {
-            self.keep_run(begin, row);
+            self.keep_front(begin, bytes, HALF, count);
         }
     }
 
-    /// Keeps a run of transitions of one byte.
+    /// Keeps the first `count` bytes as transitions, where there is room for `row` of them.
     #[inline(always)]
-    fn keep_run(&mut self, begin: u32, run: &[u8])
+    fn keep_front(&mut self, begin: u32, bytes: &[u8], row: usize, count: usize)
         requires order { All (λ time. time ≤ self.old.time) self.old.flux.times }
-        requires within { self.old.time + 255 * length run.now < 2 ^ 64 }
-        requires end { begin + self.old.place + length run.now < 2 ^ 32 }
-        requires room { length run.now ≤ self.old.flux.spare_times }
-        requires bench { length run.now ≤ self.old.bench.spare_ends }
-        ensures flux { AddsTimes (length run.now) (times_after self.old.time run.now) self.old.flux self.new.flux }
-        ensures bench { AddsEnds (length run.now) (range_with_len (begin + self.old.place + 1) (length run.now))
-            self.old.bench self.new.bench }
-        ensures place { self.new.place ≡ self.old.place + length run.now }
-        ensures time { self.new.time ≡ self.old.time + sum run.now }
+        requires within { self.old.time + 255 * 16 < 2 ^ 64 }
+        requires end { begin + self.old.place + 16 < 2 ^ 32 }
+        requires row { row ≤ length bytes.now }
+        requires most { row ≤ 16 }
+        requires room { row ≤ self.old.flux.spare_times }
+        requires bench { row ≤ self.old.bench.spare_ends }
+        requires some { 1 ≤ count }
+        requires few { count ≤ row }
+        ensures flux { AddsTimes count (times_after self.old.time (take count bytes.now)) self.old.flux self.new.flux }
+        ensures bench { AddsEnds count (range_with_len (begin + self.old.place + 1) count) self.old.bench
+            self.new.bench }
+        ensures place { self.new.place ≡ self.old.place + count }
+        ensures time { self.new.time ≡ self.old.time + sum (take count bytes.now) }
     {
-        self.time = self.flux.push_run_reserved(self.time, run);
+        self.time = self.flux.push_front_reserved(self.time, bytes, row, count);
         self.bench
-            .note_run(begin + self.place as u32, run.len() as u32);
-        self.place += run.len();
+            .note_front(begin + self.place as u32, row as u32, count as u32);
+        self.place += count;
     }
 
     /// Keeps a transition of two or three bytes.

@@ -33,3 +33,10 @@ returns-clause-inside c =
     let mask = bitmask_splat w8 nat_le (chunk 0 16 bytes) 16 13 (length-chunk 0 16 bytes room) (omega arith) in
     let row = row_of_some bytes room (λ i. omega (arith, c.type_inv.bytes i)) (omega (arith, mask, c.if-longer-eq0.false)) in
     rw mask (omega (arith, row.few, room))
+
+pub returns-clause-few : goal.returns-clause-few
+returns-clause-few c =
+    let bytes : List ℕ = c.args.bytes.now in
+    let room : 16 ≤ length bytes = omega (arith, c.if-bytes-lt-LANES.false) in
+    let mask = bitmask_splat w8 nat_le (chunk 0 16 bytes) 16 13 (length-chunk 0 16 bytes room) (omega arith) in
+    rw mask (row_of_some bytes room (λ i. omega (arith, c.type_inv.bytes i)) (omega (arith, mask, c.if-longer-eq0.false))).few

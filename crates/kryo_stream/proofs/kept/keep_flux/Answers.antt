@@ -1,5 +1,5 @@
 use Rattle.std.proofs.Common.{arith}
-use Rattle.kryo_stream.proofs.Keepings.{keeps_start, keeps_roomy, keeps_row, keeps_long, row_inside}
+use Rattle.kryo_stream.proofs.Keepings.{keeps_start, keeps_roomy, keeps_row, keeps_long, part_length}
 use Rattle.kryo_stream.proofs.kept.keep_flux.Goals as goal
 
 pub loop-kept-init : goal.loop-kept-init
@@ -10,22 +10,23 @@ keep_row-requires-clause-order c = (keeps_roomy c.requires.read.2 c.requires.rea
 
 pub keep_row-requires-clause-within : goal.keep_row-requires-clause-within
 keep_row-requires-clause-within c =
-    let kept = c.loop-kept.invariant in
-    let roomy = keeps_roomy c.requires.read.2 c.requires.read.3 kept in
-    let row = row_inside c.args.bytes.now c.loop-kept.kept.place c.short_row.result kept.inside c.short_row.ensures.inside in
-    omega (arith, roomy.within.time, roomy.within.offset, row.0, row.1, c.requires.limit)
+    let roomy = keeps_roomy c.requires.read.2 c.requires.read.3 c.loop-kept.invariant in
+    omega (arith, roomy.within.time, roomy.within.offset)
+
+pub keep_row-requires-clause-end : goal.keep_row-requires-clause-end
+keep_row-requires-clause-end c =
+    let roomy = keeps_roomy c.requires.read.2 c.requires.read.3 c.loop-kept.invariant in
+    omega (arith, roomy.within.counted, roomy.within.offset)
 
 pub keep_row-requires-clause-room : goal.keep_row-requires-clause-room
 keep_row-requires-clause-room c =
     let kept = c.loop-kept.invariant in
-    let row = row_inside c.args.bytes.now c.loop-kept.kept.place c.short_row.result kept.inside c.short_row.ensures.inside in
-    omega (arith, kept.spare, row.0, row.1)
+    omega (arith, kept.spare, kept.inside, part_length c.args.bytes.now c.loop-kept.kept.place)
 
 pub keep_row-requires-clause-bench : goal.keep_row-requires-clause-bench
 keep_row-requires-clause-bench c =
     let kept = c.loop-kept.invariant in
-    let row = row_inside c.args.bytes.now c.loop-kept.kept.place c.short_row.result kept.inside c.short_row.ensures.inside in
-    omega (arith, kept.spare_ends, row.0, row.1)
+    omega (arith, kept.spare_ends, kept.inside, part_length c.args.bytes.now c.loop-kept.kept.place)
 
 pub loop-kept-preserved-in-14-to-255 : goal.loop-kept-preserved-in-14-to-255
 loop-kept-preserved-in-14-to-255 c =
