@@ -1,7 +1,7 @@
 -- Bytes that are read from ten cells each.
-use Rattle.std.proofs.Common.{◌≡◌, ℕ, zero, suc, ◌+◌, ◌<◌, ◌≤◌, Bool, List, [], ◌∷◌, length, arith, Option, Some, None, IfSome, IfNone, ap, sym, ◌∙◌}
+use Rattle.std.proofs.Common.{◌≡◌, ℕ, zero, suc, ◌+◌, ◌*◌, ◌/◌, ◌%◌, ◌<◌, ◌≤◌, Bool, List, [], ◌∷◌, ◌++◌, length, length-append, get_or, arith, Option, Some, None, IfSome, IfNone, ap, subst, sym, ◌∙◌}
 use Rattle.cell_bits.specs.Word.{word, word_cells}
-use Rattle.frame_law.specs.lemmas.WordRowLaws.{word_cells-word}
+use Rattle.frame_law.specs.lemmas.WordRowLaws.{row-more, word-split, word_cells-word}
 use Rattle.commodore_gcr.specs.Coding.{ByteAt, BytesAt, gcr}
 use Rattle.commodore_gcr.specs.lemmas.CodingLaws.{one_list_at}
 use Rattle.commodore_gcr.specs.Sectors.{Names, numbered_bytes}
@@ -55,3 +55,64 @@ header_is cells header name size bytes names =
 pub in_any_case : {X P : Type 0} (found : Option X) → P → IfNone found P
 in_any_case None p = p
 in_any_case (Some x) p = tt
+
+-- the numbers of three bytes are parts of the number of their thirty cells
+pub three_numbers : (cells : List Bool) (place number : ℕ) → place + 30 ≤ length cells → number ≡ word cells place 30
+    → (number / 1048576 ≡ word cells place 10) × (number / 1024 % 1024 ≡ word cells (place + 10) 10)
+    × (number % 1024 ≡ word cells (place + 20) 10)
+three_numbers cells place number within is =
+    let last : (word cells place 20 ≡ word cells place 30 / 1024) × (word cells (place + 20) 10 ≡ word cells place 30 % 1024) =
+    word-split cells place 20 10 within in
+    let first : (word cells place 10 ≡ word cells place 20 / 1024) × (word cells (place + 10) 10 ≡ word cells place 20 % 1024) =
+    word-split cells place 10 10 (omega (arith, within)) in (
+      omega (arith, is, last.0, first.0),
+      omega (arith, is, last.0, first.1),
+      omega (arith, is, last.1),
+    )
+
+pub three_bytes : (cells : List Bool) (place first second third : ℕ) → ByteAt cells place first → ByteAt cells (place + 10) second
+    → ByteAt cells (place + 20) third → BytesAt cells place (first ∷ second ∷ third ∷ [])
+three_bytes cells place first second third a b c = at
+  where
+    at : BytesAt cells place (first ∷ second ∷ third ∷ [])
+    at zero within = subst (λ (n : ℕ). ByteAt cells n first) (omega arith) a
+    at (suc zero) within = subst (λ (n : ℕ). ByteAt cells n second) (omega arith) b
+    at (suc (suc zero)) within = subst (λ (n : ℕ). ByteAt cells n third) (omega arith) c
+    at (suc (suc (suc k))) within = absurd (omega arith)
+
+-- three bytes more
+pub three-more : (cells : List Bool) (place count : ℕ) (bytes three : List ℕ) → BytesAt cells place bytes → length bytes ≡ 3 * count
+    → length three ≡ 3 → BytesAt cells (place + 30 * count) three
+    → BytesAt cells place (((bytes ++ get_or three 0 0 ∷ []) ++ get_or three 1 0 ∷ []) ++ get_or three 2 0 ∷ [])
+three-more cells place count bytes three stand size three_size more =
+    let first = get_or three 0 0 in
+    let second = get_or three 1 0 in
+    let third = get_or three 2 0 in
+    let one = bytes ++ first ∷ [] in
+    let two = one ++ second ∷ [] in
+    let one_size = length-append bytes (first ∷ []) in
+    let two_size = length-append one (second ∷ []) in
+    row-more 10 ByteAt cells place two third
+    (row-more 10 ByteAt cells place one second
+    (row-more 10 ByteAt cells place bytes first stand
+    (subst (λ (n : ℕ). ByteAt cells n first) (omega (arith, size)) (more 0 (omega (arith, three_size)))))
+    (subst (λ (n : ℕ). ByteAt cells n second) (omega (arith, size, one_size)) (more 1 (omega (arith, three_size)))))
+    (subst (λ (n : ℕ). ByteAt cells n third) (omega (arith, size, one_size, two_size)) (more 2 (omega (arith, three_size))))
+
+-- three of the bytes that stand
+pub three-stand : (cells : List Bool) (place count : ℕ) (bytes : List ℕ) → count < 85 → length bytes ≡ 256 → BytesAt cells place bytes
+    → BytesAt cells (place + 30 * count) (get_or bytes (3 * count) 0 ∷ get_or bytes (3 * count + 1) 0 ∷ get_or bytes (3 * count + 2) 0 ∷ [])
+three-stand cells place count bytes few size stand =
+    three_bytes cells (place + 30 * count) (get_or bytes (3 * count) 0) (get_or bytes (3 * count + 1) 0) (get_or bytes (3 * count + 2) 0)
+    (subst (λ (n : ℕ). ByteAt cells n (get_or bytes (3 * count) 0)) (omega arith) (stand (3 * count) (omega (arith, few, size))))
+    (subst (λ (n : ℕ). ByteAt cells n (get_or bytes (3 * count + 1) 0)) (omega arith) (stand (3 * count + 1) (omega (arith, few, size))))
+    (subst (λ (n : ℕ). ByteAt cells n (get_or bytes (3 * count + 2) 0)) (omega arith) (stand (3 * count + 2) (omega (arith, few, size))))
+
+-- the number of ten cells tells the byte that stands there, or that none does
+pub number_some : (cells : List Bool) (place number byte : ℕ) → place + 10 ≤ length cells → number ≡ word cells place 10 → byte < 256
+    → gcr byte ≡ word_cells 10 number → ByteAt cells place byte
+number_some cells place number byte within is fits stands = byte_at-some cells place number (Some byte) within is fits stands
+
+pub number_none : (cells : List Bool) (place number : ℕ) → place + 10 ≤ length cells → number ≡ word cells place 10
+    → ((byte : ℕ) → byte < 256 → ¬ (gcr byte ≡ word_cells 10 number)) → (byte : ℕ) → ¬ ByteAt cells place byte
+number_none cells place number within is none = byte_at-none cells place number None within is none

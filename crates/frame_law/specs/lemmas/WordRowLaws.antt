@@ -1,17 +1,19 @@
 -- What holds of words at places of cells, and of items in a row.
-use Rattle.std.specs.Prelude.{◌≡◌, ℕ, zero, suc, ◌+◌, ◌*◌, ◌^◌, ◌<◌, ◌≤◌, Bool, List, [], ◌∷◌, ◌++◌}
+use Rattle.std.specs.Prelude.{◌≡◌, ℕ, zero, suc, ◌+◌, ◌*◌, ◌/◌, ◌%◌, ◌^◌, ◌<◌, ◌≤◌, Bool, List, []}
+use Rattle.std.specs.Prelude.{◌∷◌, ◌++◌}
 use Rattle.std.specs.Prelude.{length, take, drop, get_or, flat_map}
 use Rattle.std.proofs.Common.{ap, sym, subst, ◌∙◌, arith, append_assoc, inl, inr, length-append}
 use Rattle.std.proofs.Common.{length-drop, lit<, mod-eq_of_lt, mul-zero, mul-suc}
 use Rattle.std.proofs.lemmas.Bool.{cases_lt}
-use Rattle.std.proofs.lemmas.List.{ext_get_or, length-take}
+use Rattle.std.proofs.lemmas.List.{drop-drop, drop-take, ext_get_or, length-take, take-take}
+use Rattle.std.proofs.lemmas.Nat.{pow_pos, shr_below, shr_split}
 use Rattle.std.proofs.Math.ListN.{get_or-append}
-use Rattle.std.proofs.Math.Nat.{mul-le-mul_left, pow-le-pow_right}
+use Rattle.std.proofs.Math.Nat.{mod-lt, mul-le-mul_left, pow-le-pow_right}
 use Rattle.std.proofs.Math.Seq.{get_or-append_seam}
 use Rattle.cell_bits.specs.Word.{Stands, number_of, word, word_cells}
 use Rattle.cell_bits.specs.lemmas.WordLaws.{length-word_cells, number_of-lt, number_of-word_cells}
-use Rattle.cell_bits.specs.lemmas.WordLaws.{word_cells-number_of}
-use Rattle.track_rings.specs.lemmas.Parts.{take-first}
+use Rattle.cell_bits.specs.lemmas.WordLaws.{word_cells-append, word_cells-number_of}
+use Rattle.track_rings.specs.lemmas.Parts.{drop-past, take-first}
 use Rattle.track_rings.specs.Rings.{AreBytes}
 use Rattle.frame_law.specs.WordRows.{ListStands}
 
@@ -40,6 +42,34 @@ pub word-stands : (cells : List Bool) (value count place : ℕ) → value < 2 ^ 
 unfolding word
 word-stands cells value count place fits stands =
     ap number_of stands ∙ number_of-word_cells count value ∙ mod-eq_of_lt fits
+
+-- the number of so many cells has those of its first and of its last cells one after the other
+pub word-split : (cells : List Bool) (place m n : ℕ) → place + (m + n) ≤ length cells
+    → (word cells place m ≡ word cells place (m + n) / 2 ^ n)
+    × (word cells (place + m) n ≡ word cells place (m + n) % 2 ^ n)
+word-split cells place m n within =
+    let value : ℕ = word cells place (m + n) in
+    let high : ℕ = value / 2 ^ n in
+    let low : ℕ = value % 2 ^ n in
+    let low_fits : low < 2 ^ n = mod-lt value (pow_pos n) in
+    let high_fits : high < 2 ^ m = shr_below value m n (word-lt cells place (m + n)) in
+    let here : List Bool = drop place cells in
+    let sized : length (word_cells m high) ≡ m = length-word_cells m high in
+    let stand : take (m + n) here ≡ word_cells m high ++ word_cells n low =
+    sym (word_cells-word cells place (m + n) within)
+    ∙ ap (word_cells (m + n)) (sym (shr_split value n)) ∙ word_cells-append m n high low low_fits in
+    let first : take m here ≡ word_cells m high =
+    sym (take-take m (m + n) here (omega arith)) ∙ ap (take m) stand
+    ∙ take-first (word_cells m high) (word_cells n low) m sized in
+    let behind : drop (place + m) cells ≡ drop m here =
+    ap (λ (k : ℕ). drop k cells) (omega arith) ∙ sym (drop-drop m place cells) in
+    let last : take n (drop (place + m) cells) ≡ word_cells n low =
+    ap (take n) behind ∙ sym (drop-take m n here) ∙ ap (drop m) stand
+    ∙ ap (λ (k : ℕ). drop k (word_cells m high ++ word_cells n low)) (omega arith)
+    ∙ drop-past (word_cells m high) (word_cells n low) m 0 sized in (
+      word-stands cells high m place high_fits first,
+      word-stands cells low n (place + m) low_fits last,
+    )
 
 pub word-first : (value count : ℕ) (rest : List Bool) → value < 2 ^ count
     → word (word_cells count value ++ rest) 0 count ≡ value
