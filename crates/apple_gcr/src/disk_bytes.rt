@@ -101,7 +101,10 @@ fn controller_end(frame: &CellsFrom, from: usize, count: usize) -> Option<usize>
 }
 
 /// How many bytes have their cells in one word.
-const FOUR: usize = 4;
+pub(crate) const FOUR: usize = 4;
+
+/// Their cells.
+pub(crate) const FOUR_CELLS: u8 = 32;
 
 /// Whether four bytes, each of eight cells, lie in the cells from the offset on that begin with a one.
 fn four_begin(frame: &CellsFrom, from: usize) -> bool
@@ -111,7 +114,7 @@ fn four_begin(frame: &CellsFrom, from: usize) -> bool
     if frame.len() < from + FOUR * BYTE_CELLS {
         return false;
     }
-    frame.word_at(from, 32) & FIRST_CELLS == FIRST_CELLS
+    frame.word_at(from, FOUR_CELLS) & FIRST_CELLS == FIRST_CELLS
 }
 
 /// The first cell of each of four bytes.
