@@ -1,5 +1,5 @@
 -- What the verdicts over all readings of a track say, where it is read by a plan.
-use Rattle.std.specs.Prelude.{◌≡◌, ◌<◌, ◌≤◌, ℕ, Bool, true, false, not, ◌&&◌, List, [], ◌∷◌, ◌++◌, get_or, is_some, length, nat_eq, replicate, unwrap_or, Option, Some, refl}
+use Rattle.std.specs.Prelude.{◌≡◌, ◌<◌, ◌≤◌, ℕ, Bool, true, false, not, ◌&&◌, List, [], ◌∷◌, ◌++◌, drop, get_or, is_some, length, nat_eq, replicate, unwrap_or, Option, Some, refl}
 use Rattle.std.specs.Str.{bytes_eq}
 use Rattle.std.proofs.Common.{ap, sym, subst, ◌∙◌, arith, append_assoc}
 use Rattle.std.proofs.lemmas.Bool.{eqb-true, eq-eqb}
@@ -13,10 +13,10 @@ use Rattle.turn_merge.specs.declared.clock.Clock.{Clock}
 use Rattle.turn_merge.specs.declared.clock.Clock.TheVariants.{Following, Held}
 use Rattle.turn_merge.specs.declared.verdict.Place.{Place}
 use Rattle.flux_engine.specs.Captured.{IsUsed, joined_by}
-use Rattle.flux_engine.specs.PlanLaws.{ContradictionsAreNamedInPlans, FirstReadingsLead, FirstSourceStaysGood, GoodIsRightInPlans, GoodReadingsStandInPlans, IsNamedIn, IsRightlyContradictoryIn, IsRightlyGoodIn, StandsIn, StaysGoodOrIsContradicted, cells_in, first_readings}
+use Rattle.flux_engine.specs.PlanLaws.{ContradictionsAreNamedInPlans, FirstReadingsLead, FirstSourceStaysGood, GoodIsRightInPlans, GoodReadingsStandInPlans, IsNamedIn, IsRightlyContradictoryIn, IsRightlyGood, StandsIn, StaysGoodOrIsContradicted, cells_in, first_readings}
 use Rattle.flux_engine.specs.Plans.{AreCaptures, Streams, joined}
 use Rattle.flux_engine.specs.Recordings.{sectors_of, track_at}
-use Rattle.flux_engine.specs.Tracks.{Found, place_in, readings_in}
+use Rattle.flux_engine.specs.Tracks.{Found, image_bytes, place_in, readings_in}
 use Rattle.flux_engine.specs.declared.plan.Clocks.{Clocks}
 use Rattle.flux_engine.specs.declared.plan.Clocks.TheVariants.{Both, FollowingAlone}
 use Rattle.flux_engine.specs.Rules.{RulesAreRead, StandsBy}
@@ -106,13 +106,15 @@ module _ (read : RulesAreRead) (plan : Plan) (format : Format) (streams : Stream
     agrees q clock place others low used here =
         stands_has HoldsMine all_hold q clock place sector others low used here (ap (λ (b : Bool). b && true) (eq-eqb sector sector refl))
 
-    rightly : IsRightlyGoodIn plan format streams n (joined captures) sector first
+    rightly : IsRightlyGood plan format streams n (image_bytes (sectors_of format track) (joined captures) sector) sector first
     unfolding agreed
     rightly =
         let goods = subst (Each (NamesSector sector)) h.all (goods_name sector) in
+        let here : IsNamedIn plan format streams n first sector mine = subst (λ (p : Place). IsNamedIn plan format streams n p sector mine) h.place goods.0 in
         record {
           bytes = mine;
-          named = subst (λ (p : Place). IsNamedIn plan format streams n p sector mine) h.place goods.0;
+          size = read.size plan.rule format track (drop here.place (cells here.capture here.clock)) sector mine here.stands;
+          named = here;
           in_image = ap (λ (o : Option (List ℕ)). unwrap_or o (replicate (sectors_of format track).size 0)) (agreed_head (good_ones (joined captures) sector) first h);
           agreed = agrees;
         }

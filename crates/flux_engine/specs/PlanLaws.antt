@@ -2,6 +2,7 @@
 use Rattle.std.specs.Prelude.{◌≡◌, ◌<◌, ◌≤◌, ◌⊎◌, ℕ, Bool, Contains, List, ◌++◌, drop, length, Some}
 use Rattle.disk_recordings.specs.Members.{header_at, sector_at}
 use Rattle.frame_law.specs.Readings.{AreReadings}
+use Rattle.sector_images.specs.Formats.{row}
 use Rattle.sector_images.specs.declared.format.Format.{Format}
 use Rattle.turn_merge.specs.Readings.{NotedReading, agreed, verdict}
 use Rattle.turn_merge.specs.declared.clock.Clock.{Clock}
@@ -63,14 +64,17 @@ GoodReadingsStandInPlans = (plan : Plan) (format : Format) (streams : Streams) (
     → reading.bytes ≡ Some bytes
     → IsNamedIn plan format streams n reading.place reading.sector bytes
 
--- A sector of track number n is good with its first good reading at this place: the cells that it
--- names hold the sector; the track's part of the image has these bytes for it; and each place whose
--- cells hold it, of any capture and by any clock of the plan, holds the same bytes.
-pub record IsRightlyGoodIn (plan : Plan) (format : Format) (streams : Streams) (n : ℕ)
-    (readings : List NotedReading) (sector : ℕ) (first : Place) : Type 0 where
+-- A sector of track number n, of which the image holds these bytes, is rightly called good, and its
+-- first good reading is at this place: it is a place of a capture, by a clock of the plan, in its
+-- turn there, whose cells hold the sector, with its sync, header, data and check values, as many
+-- bytes as the format's sectors have; they are those that the image holds; and each place of the
+-- track whose cells hold it, of any capture and by any clock of the plan, holds the same bytes.
+pub record IsRightlyGood (plan : Plan) (format : Format) (streams : Streams) (n : ℕ)
+    (held : List ℕ) (sector : ℕ) (first : Place) : Type 0 where
   pub bytes : List ℕ
+  pub size : length bytes ≡ (row format).sector_size
   pub named : IsNamedIn plan format streams n first sector bytes
-  pub in_image : image_bytes (sectors_of format (track_at format n)) readings sector ≡ bytes
+  pub in_image : held ≡ bytes
   pub agreed : (q : ℕ) (clock : Clock) (place : ℕ) (others : List ℕ) → q < plan.captures
       → IsUsed plan.clocks clock
       → StandsIn plan.rule format streams n q clock place sector others → others ≡ bytes
@@ -81,7 +85,8 @@ GoodIsRightInPlans = (plan : Plan) (format : Format) (streams : Streams) (n : �
     (captures : List (List NotedReading))
     → length captures ≡ plan.captures → AreCaptures plan format streams n captures
     → (sector good bad : ℕ) (first : Place) → verdict (joined captures) sector ≡ Good good bad first
-    → IsRightlyGoodIn plan format streams n (joined captures) sector first
+    → IsRightlyGood plan format streams n
+    (image_bytes (sectors_of format (track_at format n)) (joined captures) sector) sector first
 
 -- A sector is contradictory with these two places named: the cells that each names hold the
 -- sector there, with other bytes.

@@ -5,7 +5,7 @@ use Rattle.std.proofs.lemmas.Bool.{eq-eqb}
 use Rattle.dump_reading.specs.Outcomes.{DumpDisk, DumpsRead, plan_of}
 use Rattle.flux_engine.specs.Captured.{IsUsed}
 use Rattle.flux_engine.specs.DiskLaws.{bytes_at}
-use Rattle.flux_engine.specs.PlanLaws.{StandsIn, cells_in}
+use Rattle.flux_engine.specs.PlanLaws.{IsRightlyGood, StandsIn, cells_in}
 use Rattle.flux_engine.specs.Plans.{AreCaptures, Streams, joined}
 use Rattle.flux_engine.specs.Recordings.{track_at}
 use Rattle.flux_engine.specs.Rings.{IsImage, sector_bytes}
@@ -22,7 +22,7 @@ use Rattle.frame_law.specs.declared.reading.Reading.TheVariants.{Good as GoodFra
 use Rattle.law_captured_disks.specs.Headline.{IsBadOrMissing, IsSectorOf}
 use Rattle.flux_engine.specs.lemmas.NoneAgreed.{none_agreed}
 use Rattle.law_captured_disks.specs.lemmas.NoneGood.{no_goods}
-use Rattle.law_captured_plans.specs.Said.{IsRightlyGood, IsSaid}
+use Rattle.law_captured_plans.specs.Said.{IsSaid}
 use Rattle.law_captured_plans.specs.Headline.{IsOwnOrContradictory, IsReadRightly, IsReadWell}
 use Rattle.sector_images.specs.Formats.{row}
 use Rattle.sector_images.specs.declared.format.Format.{Format}
@@ -110,7 +110,7 @@ module _ (laws : Laws) (disk : DumpDisk) (came : Streams) (files : List File) (o
     never_lost = not_lost n sector number said dump Following there.0 (mine laws.own disk came files of image is n sector) low used there.1
 
     -- good means its own bytes
-    good_is_own : (first : Place) → IsRightlyGood plan format streams o.image n sector first → held n sector ≡ own n sector
+    good_is_own : (first : Place) → IsRightlyGood plan format streams n (held n sector) sector first → held n sector ≡ own n sector
     good_is_own first right =
         right.in_image ∙ sym (right.agreed dump Following there.0 (mine laws.own disk came files of image is n sector) low used there.1)
         ∙ (tracks_written laws.own disk came files of image is).content n sector one

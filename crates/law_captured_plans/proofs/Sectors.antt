@@ -13,11 +13,10 @@ use Rattle.turn_merge.specs.declared.verdict.Verdict.{Verdict}
 use Rattle.turn_merge.specs.declared.verdict.Verdict.TheVariants.{Good, Contradictory, Bad, Missing}
 use Rattle.flux_engine.specs.DiskLaws.{HasLine, bytes_at, line_number}
 use Rattle.flux_engine.specs.Disks.{images, last_line, part_at, totals_over}
-use Rattle.flux_engine.specs.PlanLaws.{GoodIsRightInPlans, cells_in}
+use Rattle.flux_engine.specs.PlanLaws.{GoodIsRightInPlans}
 use Rattle.flux_engine.specs.Plans.{IsPlanned, IsPlannedPart, Planned, Streams, StopsAt, joined, planned_count}
 use Rattle.flux_engine.specs.declared.fault.RefusedCapture.{RefusedCapture}
 use Rattle.flux_engine.specs.Recordings.{sectors_of, track_at}
-use Rattle.flux_engine.specs.Rules.{RulesAreRead}
 use Rattle.flux_engine.specs.Tracks.{TrackPart, image_bytes, image_of, image_piece, lines_by, part_by}
 use Rattle.flux_engine.specs.declared.plan.Plan.{Plan}
 use Rattle.flux_engine.specs.lemmas.LineNumbers.{sector-line}
@@ -27,7 +26,6 @@ use Rattle.flux_engine.specs.lemmas.NoneAgreed.{none_agreed}
 
 -- what the crates below promise
 pub record Laws : Type 0 where
-  pub rules : RulesAreRead
   pub good : GoodIsRightInPlans
   pub names : NumbersNameTracks
   pub fill : SectorsFillTracks
@@ -55,9 +53,7 @@ module _ (laws : Laws) (plan : Plan) (format : Format) (streams : Streams) (n : 
   size_by : (sector : ℕ) (v : Verdict) → verdict readings sector ≡ v → length (image_bytes (sectors_of format track) readings sector) ≡ size
   size_by sector (Good g b first) same =
       let right = laws.good plan format streams n at.captures at.many at.each sector g b first same in
-      let here = right.named in
-      ap length right.in_image
-      ∙ laws.rules.size plan.rule format track (drop here.place (cells_in format streams n here.capture here.clock)) sector right.bytes here.stands
+      ap length right.in_image ∙ right.size
   size_by sector (Contradictory g b first other) same = zeros_size sector (none_agreed readings sector (Contradictory g b first other) same refl)
   size_by sector (Bad b first) same = zeros_size sector (none_agreed readings sector (Bad b first) same refl)
   size_by sector Missing same = zeros_size sector (none_agreed readings sector Missing same refl)

@@ -1,5 +1,5 @@
 -- What the lines of a disk's report tell that was read by a plan.
-use Rattle.std.specs.Prelude.{◌≡◌, ◌≤◌, ◌<◌, ◌^◌, ℕ, suc, ◌+◌, ◌*◌, List, [], ◌∷◌, ◌++◌, drop, get_or, length, unwrap_or, Option, refl}
+use Rattle.std.specs.Prelude.{◌≡◌, ◌≤◌, ◌<◌, ◌^◌, ℕ, suc, ◌+◌, ◌*◌, List, [], ◌∷◌, ◌++◌, get_or, length, unwrap_or, Option, refl}
 use Rattle.std.proofs.Common.{ap, sym, subst, ◌∙◌, arith, length-append, lit<}
 use Rattle.flux_base.specs.declared.track.TrackId.{TrackId}
 use Rattle.disk_recordings.specs.Laws.{TracksAreRead}
@@ -18,9 +18,9 @@ use Rattle.turn_merge.specs.declared.verdict.Place.{Place}
 use Rattle.turn_merge.specs.declared.verdict.Verdict.{Verdict}
 use Rattle.turn_merge.specs.declared.verdict.Verdict.TheVariants.{Good}
 use Rattle.flux_engine.specs.Captured.{AreReadingsBy, IsUsed, joined_by}
-use Rattle.flux_engine.specs.DiskLaws.{HasLine, line_number, sectors_before, total_lines}
+use Rattle.flux_engine.specs.DiskLaws.{HasLine, bytes_at, line_number, sectors_before, total_lines}
 use Rattle.flux_engine.specs.Disks.{last_line, lines, totals_over}
-use Rattle.flux_engine.specs.PlanLaws.{cells_in}
+use Rattle.flux_engine.specs.PlanLaws.{IsRightlyGood}
 use Rattle.flux_engine.specs.Plans.{IsPlanned, Planned, Streams, joined, planned_count}
 use Rattle.flux_engine.specs.Recordings.{track_at}
 use Rattle.flux_engine.specs.Streams.{stream_at}
@@ -34,7 +34,7 @@ use Rattle.flux_engine.specs.lemmas.Each.{Each, each-append}
 use Rattle.flux_engine.specs.lemmas.JoinedReadings.{each_joined}
 use Rattle.flux_engine.specs.lemmas.ReportLines.{IsLineOf, ends_report, last_ends, line_count, line_of_sector}
 use Rattle.flux_engine.specs.lemmas.VerdictBounds.{FewFit, ReadingFits, few_fit, readings_fit}
-use Rattle.law_captured_plans.specs.Said.{AreShort, GoodLinesAreRight, InputsAreShort, IsRightlyGood, IsToldBy, LinesTellInPlans, PlannedReportsHaveNoOtherLines, TellsSources}
+use Rattle.law_captured_plans.specs.Said.{AreShort, GoodLinesAreRight, InputsAreShort, IsToldBy, LinesTellInPlans, PlannedReportsHaveNoOtherLines, TellsSources}
 use Rattle.law_captured_plans.proofs.Sectors.{few, plan_lines, plan_readings, said, said-captures, Laws as SectorLaws}
 
 -- what the crates below promise
@@ -167,7 +167,7 @@ module _ (laws : Laws) (plan : Plan) (format : Format) (streams : Streams) (o : 
 
     rightly : (track : TrackId) (sector good bad : ℕ) (first : Place) (number : ℕ) → LineFits plan.naming track sector (Good good bad first)
         → HasLine o.notes (named_text plan.naming track sector (Good good bad first)) number
-        → (n : ℕ) × (track ≡ track_at format n) × IsRightlyGood plan format streams o.image n sector first
+        → (n : ℕ) × (track ≡ track_at format n) × IsRightlyGood plan format streams n (bytes_at format o.image (track_at format n) sector) sector first
     rightly track sector good bad first number fits h =
         let t = told track sector (Good good bad first) number fits h in
         let right = laws.sectors.good plan format streams t.n t.said.captures t.said.many t.said.each sector good bad first t.is in (
@@ -175,9 +175,7 @@ module _ (laws : Laws) (plan : Plan) (format : Format) (streams : Streams) (o : 
           t.track_is,
           record {
             bytes = right.bytes;
-            size =
-                laws.sectors.rules.size plan.rule format (track_at format t.n)
-                (drop right.named.place (cells_in format streams t.n right.named.capture right.named.clock)) sector right.bytes right.named.stands;
+            size = right.size;
             named = right.named;
             in_image = t.said.held ∙ right.in_image;
             agreed = right.agreed;

@@ -11,14 +11,12 @@ use Rattle.sector_report.specs.declared.naming.Naming.{Naming}
 use Rattle.sector_report.specs.declared.naming.Naming.TheVariants.{ByCapture, ByCaptureAndClock}
 use Rattle.sector_report.specs.declared.naming.Naming.TheVariants.{ByClock, Unnamed}
 use Rattle.turn_merge.specs.Readings.{NotedReading, verdict}
-use Rattle.turn_merge.specs.declared.clock.Clock.{Clock}
 use Rattle.turn_merge.specs.declared.verdict.Place.{Place}
 use Rattle.turn_merge.specs.declared.verdict.Verdict.{Verdict}
 use Rattle.turn_merge.specs.declared.verdict.Verdict.TheVariants.{Good}
-use Rattle.flux_engine.specs.Captured.{IsUsed}
 use Rattle.flux_engine.specs.DiskLaws.{HasLine, bytes_at, line_number, sectors_before, total_lines}
 use Rattle.flux_engine.specs.Disks.{images}
-use Rattle.flux_engine.specs.PlanLaws.{IsNamedIn, StandsIn}
+use Rattle.flux_engine.specs.PlanLaws.{IsRightlyGood}
 use Rattle.flux_engine.specs.Plans.{AreCaptures, ArePlannedParts, IsPlanned, Planned, Streams}
 use Rattle.flux_engine.specs.Plans.{joined, planned_count, streams_in}
 use Rattle.flux_engine.specs.Recordings.{sectors_of, track_at}
@@ -117,29 +115,16 @@ LinesTellInPlans = (plan : Plan) (format : Format) (streams : Streams) (o : Plan
     → AreShort streams → IsPlanned plan (part_by plan.naming) format streams o
     → AreToldBy plan format streams o (line_number format)
 
--- A sector of track number n is rightly called good, and its first good reading is at this place:
--- it is a place of a capture, by a clock of the plan, in its turn there, whose cells hold the
--- sector, with its sync, header, data and check values, as many bytes as the format's sectors have;
--- the image has these bytes at the sector's place; and each place of the track whose cells hold it,
--- of any capture and by any clock of the plan, holds the same bytes.
-pub record IsRightlyGood (plan : Plan) (format : Format) (streams : Streams) (image : List ℕ)
-    (n sector : ℕ) (first : Place) : Type 0 where
-  pub bytes : List ℕ
-  pub size : length bytes ≡ (row format).sector_size
-  pub named : IsNamedIn plan format streams n first sector bytes
-  pub in_image : bytes_at format image (track_at format n) sector ≡ bytes
-  pub agreed : (q : ℕ) (clock : Clock) (place : ℕ) (others : List ℕ) → q < plan.captures
-      → IsUsed plan.clocks clock
-      → StandsIn plan.rule format streams n q clock place sector others → others ≡ bytes
-
--- So it is, by the strict rule, with each line that says good: its track is one of the format's.
+-- By the strict rule each line that says good is right: its track is one of the format's, and the
+-- sector is rightly good, with the bytes at its place in the image.
 abbrev pub AreRightLines : Plan → Format → Streams → Planned → Type 0
 AreRightLines plan format streams o =
     (track : TrackId) (sector good bad : ℕ) (first : Place) (number : ℕ)
     → LineFits plan.naming track sector (Good good bad first)
     → HasLine o.notes (named_text plan.naming track sector (Good good bad first)) number
     → (n : ℕ) × (track ≡ track_at format n)
-    × IsRightlyGood plan format streams o.image n sector first
+    × IsRightlyGood plan format streams n (bytes_at format o.image (track_at format n) sector)
+    sector first
 
 abbrev pub GoodLinesAreRight : Type 0
 GoodLinesAreRight = (plan : Plan) (format : Format) (streams : Streams) (o : Planned)

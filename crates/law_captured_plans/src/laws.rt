@@ -28,7 +28,6 @@ use sector_report::{sector_lines_tell, sectors_have_one_line, totals_have_one_li
 pub fn planned_sectors_are_said()
     ensures { SectorsAreSaid }
 {
-    rules_are_read();
     plans_are_right();
     sectors_have_one_line();
     sectors_lie_in_images();
@@ -40,7 +39,6 @@ pub fn planned_sectors_are_said()
 pub fn planned_parts_fit_images()
     ensures { PlannedPartsFitImages }
 {
-    rules_are_read();
     plans_are_right();
     sectors_have_one_line();
     sectors_lie_in_images();
@@ -59,7 +57,6 @@ pub fn planned_lines_tell()
     ensures good { GoodLinesAreRight }
 {
     tracks_are_read();
-    rules_are_read();
     plans_are_right();
     growth_law();
     cells_are_few();

@@ -1,5 +1,5 @@
 -- What dumps that were read say of each sector.
-use Rattle.std.specs.Prelude.{◌≡◌, ◌≤◌, ◌<◌, ◌⊎◌, ℕ, zero, suc, ◌+◌, map, List, [], ◌∷◌, ◌++◌, drop, get_or, length, Option, None, refl}
+use Rattle.std.specs.Prelude.{◌≡◌, ◌≤◌, ◌<◌, ◌⊎◌, ℕ, zero, suc, ◌+◌, map, List, [], ◌∷◌, ◌++◌, get_or, length, Option, None, refl}
 use Rattle.std.specs.List.{range_with_len}
 use Rattle.std.proofs.Common.{ap, sym, subst, ◌∙◌, arith, inl, inr}
 use Rattle.std.proofs.lemmas.Bool.{cases_lt}
@@ -9,10 +9,9 @@ use Rattle.flux_base.specs.declared.track.TrackId.{TrackId}
 use Rattle.flux_engine.specs.DiskLaws.{bytes_at}
 use Rattle.flux_engine.specs.Disks.{images, part_at, report_over}
 use Rattle.flux_engine.specs.LoopProgress.{streams_over}
-use Rattle.flux_engine.specs.PlanLaws.{ContradictionsAreNamedInPlans, GoodIsRightInPlans, ReadingsInPlansAreOne, StrictGoodStays, cells_in}
+use Rattle.flux_engine.specs.PlanLaws.{ContradictionsAreNamedInPlans, GoodIsRightInPlans, ReadingsInPlansAreOne, StrictGoodStays}
 use Rattle.flux_engine.specs.Plans.{IsPlanned, IsPlannedPart, Planned, Streams, joined}
 use Rattle.flux_engine.specs.Recordings.{sectors_of, track_at}
-use Rattle.flux_engine.specs.Rules.{RulesAreRead}
 use Rattle.flux_engine.specs.Tracks.{TrackPart, image_bytes, named_part, part_by}
 use Rattle.flux_engine.specs.declared.plan.Plan.{Plan}
 use Rattle.flux_engine.specs.lemmas.PartLaws.{no_part}
@@ -159,17 +158,15 @@ module _ (laws : Laws) (disk : DumpDisk) (shelf : Option (List File)) (o : Dumps
       }
 
 -- what a line says is right
-pub said_is_right : RulesAreRead → GoodIsRightInPlans → ContradictionsAreNamedInPlans → SaidIsRight
-said_is_right rules good contradicted disk came o n sector number said = by (verdict (joined said.captures) sector) refl
+pub said_is_right : GoodIsRightInPlans → ContradictionsAreNamedInPlans → SaidIsRight
+said_is_right good contradicted disk came o n sector number said = by (verdict (joined said.captures) sector) refl
   where
     by : (v : Verdict) → verdict (joined said.captures) sector ≡ v → IsSaidRightly disk came o n sector v
     by (Good g b first) is =
         let right = good (plan_of disk) disk.format came n said.captures said.many said.each sector g b first is in
         record {
           bytes = right.bytes;
-          size =
-              rules.size (plan_of disk).rule disk.format (track_at disk.format n)
-              (drop right.named.place (cells_in disk.format came n right.named.capture right.named.clock)) sector right.bytes right.named.stands;
+          size = right.size;
           named = right.named;
           in_image = said.held ∙ right.in_image;
           agreed = right.agreed;

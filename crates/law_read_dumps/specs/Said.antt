@@ -9,12 +9,14 @@ use Rattle.dump_reading.specs.declared.totals.DumpTotals.{DumpTotals}
 use Rattle.flux_base.specs.declared.track.TrackId.{TrackId}
 use Rattle.flux_engine.specs.Captured.{IsUsed}
 use Rattle.flux_engine.specs.LoopProgress.{streams_over}
-use Rattle.flux_engine.specs.PlanLaws.{IsGoodTooOrContradicted, IsRightlyContradictoryIn, cells_in}
+use Rattle.flux_engine.specs.DiskLaws.{bytes_at}
+use Rattle.flux_engine.specs.PlanLaws.{IsGoodTooOrContradicted, IsRightlyContradictoryIn}
+use Rattle.flux_engine.specs.PlanLaws.{IsRightlyGood, cells_in}
 use Rattle.flux_engine.specs.Plans.{PartOf, Planned, Seen, Streams, joined}
 use Rattle.flux_engine.specs.Recordings.{track_at}
 use Rattle.flux_engine.specs.Tracks.{Found, TrackPart, readings_in}
 use Rattle.frame_law.specs.Readings.{AreReadings}
-use Rattle.law_captured_plans.specs.Said.{IsRightlyGood, IsSaid}
+use Rattle.law_captured_plans.specs.Said.{IsSaid}
 use Rattle.sector_images.specs.Places.{tracks}
 use Rattle.track_shelf.specs.Files.{File, file_at}
 use Rattle.turn_merge.specs.Readings.{NotedReading, verdict}
@@ -88,7 +90,8 @@ as_planned o = record { image = o.image; notes = o.notes; totals = o.totals.sect
 abbrev pub IsSaidRightly : (disk : DumpDisk) (came : Streams) (o : DumpsRead) (n sector : ℕ)
     → Verdict → Type 0
 IsSaidRightly disk came o n sector (Good good bad first) =
-    IsRightlyGood (plan_of disk) disk.format came o.image n sector first
+    IsRightlyGood (plan_of disk) disk.format came n
+    (bytes_at disk.format o.image (track_at disk.format n) sector) sector first
 IsSaidRightly disk came o n sector (Contradictory good bad first other) =
     IsRightlyContradictoryIn (plan_of disk) disk.format came n sector first other
 IsSaidRightly disk came o n sector _ = Unit {0}

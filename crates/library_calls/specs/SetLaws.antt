@@ -5,9 +5,10 @@ use Rattle.turn_merge.specs.Readings.{NotedReading, verdict}
 use Rattle.turn_merge.specs.declared.verdict.Place.{Place}
 use Rattle.turn_merge.specs.declared.verdict.Verdict.TheVariants.{Good}
 use Rattle.library_calls.specs.Disks.{IsPartAt}
-use Rattle.flux_engine.specs.PlanLaws.{IsRightlyGoodIn}
+use Rattle.flux_engine.specs.PlanLaws.{IsRightlyGood}
 use Rattle.flux_engine.specs.Plans.{Planned, joined, set_plan}
-use Rattle.flux_engine.specs.Tracks.{TrackPart}
+use Rattle.flux_engine.specs.Recordings.{sectors_of, track_at}
+use Rattle.flux_engine.specs.Tracks.{TrackPart, image_bytes}
 use Rattle.library_calls.specs.Sets.{IsDecodedSet, IsSetPartAt, set_streams}
 
 -- an input comes to one outcome
@@ -34,7 +35,8 @@ SetsOfOneAreDecoded = (format : Format) (x : List ℕ) (n : ℕ) (part : TrackPa
 abbrev pub IsRightlyGoodInSet : Format → (count : ℕ) → (x : List ℕ) → (n : ℕ) → List NotedReading
     → (sector : ℕ) → (first : Place) → Type 0
 IsRightlyGoodInSet format count x n readings sector first =
-    IsRightlyGoodIn (set_plan count) format (set_streams count x) n readings sector first
+    IsRightlyGood (set_plan count) format (set_streams count x) n
+    (image_bytes (sectors_of format (track_at format n)) readings sector) sector first
 
 -- wherever the verdict on a sector over all captures of a track is good
 abbrev pub GoodIsRightInSets : Type 0

@@ -55,7 +55,6 @@ laws c = record {
   joined = c.tracks_fill_images.ensures.joined;
   filled = c.tracks_fill_images.ensures.filled;
   sectors = record {
-    rules = c.rules_are_read.ensures;
     good = c.plans_are_right.ensures.good;
     names = c.sectors_lie_in_images.ensures.numbers;
     fill = c.sectors_fill_tracks.ensures.sectors;

@@ -4,7 +4,6 @@ use Rattle.law_captured_plans.proofs.laws.planned_lines_tell.Goals as goal
 laws : (c : goal.After-tracks_fill_images) → Laws
 laws c = record {
   sectors = record {
-    rules = c.rules_are_read.ensures;
     good = c.plans_are_right.ensures.good;
     names = c.sectors_lie_in_images.ensures.numbers;
     fill = c.sectors_fill_tracks.ensures.sectors;

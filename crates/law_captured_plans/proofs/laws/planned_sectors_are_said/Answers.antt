@@ -3,7 +3,6 @@ use Rattle.law_captured_plans.proofs.laws.planned_sectors_are_said.Goals as goal
 
 pub returns : goal.returns
 returns c = sectors_are_said (record {
-  rules = c.rules_are_read.ensures;
   good = c.plans_are_right.ensures.good;
   names = c.sectors_lie_in_images.ensures.numbers;
   fill = c.sectors_fill_tracks.ensures.sectors;

@@ -17,7 +17,7 @@ pub returns-clause-said : goal.returns-clause-said
 returns-clause-said c disk shelf o is n sector one = each_said (laws c) disk shelf o is n sector one
 
 pub returns-clause-right : goal.returns-clause-right
-returns-clause-right c = said_is_right c.rules_are_read.ensures c.plans_are_right.ensures.good c.plans_are_right.ensures.contradictory
+returns-clause-right c = said_is_right c.plans_are_right.ensures.good c.plans_are_right.ensures.contradictory
 
 pub returns-clause-stays : goal.returns-clause-stays
 returns-clause-stays c = good_stays c.plans_are_right.ensures.strict
