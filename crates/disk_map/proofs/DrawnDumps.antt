@@ -14,7 +14,7 @@ use Rattle.flux_engine.specs.Blamed.{sink_blame}
 use Rattle.dump_reading.specs.Beside.{no_lines}
 use Rattle.dump_reading.specs.DumpStreams.{of_disk}
 use Rattle.dump_reading.specs.Files.{ShelfNow}
-use Rattle.dump_reading.specs.Outcomes.{DumpDisk, DumpsCutInTrack, HasTracksBy, StopsBy, lines_of, numbers_of}
+use Rattle.dump_reading.specs.Outcomes.{CutOfDumps, DumpDisk, HasTracksBy, StopsBy, lines_of, numbers_of}
 use Rattle.dump_reading.specs.declared.fault.NoFiles.{NoFiles}
 use Rattle.flux_engine.specs.declared.fault.Stopped.{Stopped}
 use Rattle.flux_engine.specs.declared.fault.Stopped.TheVariants.{ReadFault, ImageFault, NotesFault, Refused}
@@ -84,7 +84,7 @@ module _ (disk : DumpDisk) (start : ShelfNow) (picture : Option (List ℕ)) wher
       }
 
     -- the sink failed at a field
-    cut-field : (written notes notes' : Option (List ℕ)) → DumpsCutInTrack PartImageFault dumps_part disk start now top written notes notes' → StoppedInDumps disk start now picture written
+    cut-field : (written notes notes' : Option (List ℕ)) → CutOfDumps PartImageFault dumps_part no_lines disk start now top written notes notes' → StoppedInDumps disk start now picture written
     cut-field written notes notes' w =
         let many : length (w.parts ++ w.next ∷ []) ≡ length w.parts + 1 = length_push w.parts w.next in
         record {

@@ -8,7 +8,7 @@ use Rattle.sector_images.specs.Places.{tracks}
 use Rattle.sector_images.specs.declared.format.Format.{Format}
 use Rattle.sector_report.specs.declared.totals.Totals.{Totals}
 use Rattle.flux_engine.specs.Counts.{names_of, told_count, whole_count, whole_names_of}
-use Rattle.flux_engine.specs.Cut.{WritesFront}
+use Rattle.flux_engine.specs.Cut.{CutInTrack, WritesFront}
 use Rattle.flux_engine.specs.Disks.{images, lines}
 use Rattle.flux_engine.specs.LoopProgress.{EndedBySink, EndsLoop, HasWritten, lost_count}
 use Rattle.flux_engine.specs.PlanAnswers.{of_part}
@@ -27,7 +27,7 @@ use Rattle.dump_reading.specs.Beside.{AreBeside, LinesOf, beside_lines, lines_at
 use Rattle.dump_reading.specs.DumpStreams.{HaveComeOf, failed_paths, of_disk}
 use Rattle.dump_reading.specs.Files.{CountsMany, ShelfNow}
 use Rattle.dump_reading.specs.inside.Looks.{LooksAsAsked, LooksInto}
-use Rattle.dump_reading.specs.Outcomes.{AreAllBy, DumpDisk, DumpsCutInTrack, FilesFailed, HasTracksBy, LookedAsAsked, LookedBeside, WroteDumps, WroteIntoBesideBy, WroteIntoEnd, lines_of, numbers_of, plan_of}
+use Rattle.dump_reading.specs.Outcomes.{AreAllBy, DumpDisk, FilesFailed, HasTracksBy, LookedAsAsked, LookedBeside, WereRead, WroteDumps, WroteIntoBesideBy, WroteIntoEnd, lines_of, numbers_of, plan_of}
 use Rattle.dump_reading.specs.Reports.{end_text, read_part}
 use Rattle.dump_reading.specs.declared.totals.DumpTotals.{DumpTotals}
 use Rattle.dump_reading.specs.lemmas.Coming.{counts-both, failed-both}
@@ -172,7 +172,8 @@ module _ (of : PartOf) (disk : DumpDisk) (start now : ShelfNow) where
         times-next : (n m : ℕ) → (n + 1) * m ≡ n * m + m
         times-next n m = grind (arith)
 
-    pub cut-wrote : (cause : PartFault) → Ends (of_part cause) → DumpsCutInTrack cause of disk start now image image' notes notes'
+    pub cut-wrote : (cause : PartFault) → Ends (of_part cause)
+        → CutInTrack (λ parts next. WereRead of disk start now (parts ++ next ∷ [])) (length (tracks disk.format)) cause image image' notes notes'
     cut-wrote cause (inl e) = absurd e.ended.ended
     cut-wrote cause (inr s) = record {
       parts = s.parts;

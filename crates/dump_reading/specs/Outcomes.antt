@@ -17,7 +17,7 @@ use Rattle.track_shelf.specs.Told.{with_failed}
 use Rattle.track_shelf.specs.declared.stepping.Stepping.{Stepping}
 use Rattle.flux_engine.specs.Answers.{AppendsAndPart}
 use Rattle.flux_engine.specs.Counts.{AreOthersOver, told_count, whole_count}
-use Rattle.flux_engine.specs.Cut.{CutInTrack}
+use Rattle.flux_engine.specs.Cut.{CutBySink}
 use Rattle.flux_engine.specs.Disks.{images, lines, totals_over}
 use Rattle.flux_engine.specs.LoopProgress.{lost_count, passed_count, streams_over}
 use Rattle.flux_engine.specs.Plans.{ArePlannedParts, PartOf, Seen}
@@ -218,13 +218,6 @@ pub record WereRead (of : PartOf) (disk : DumpDisk) (start now : ShelfNow)
   pub read : AreTracksBy of disk start.told.files streams parts
   pub shelf : FilesFailed disk start now streams []
 
--- a sink failed in a track, of which all files were read
-abbrev pub DumpsCutInTrack : PartFault → PartOf → DumpDisk → (start now : ShelfNow)
-    → (image image' notes notes' : Option (List ℕ)) → Type 0
-DumpsCutInTrack cause of disk start now =
-    CutInTrack (λ parts next. WereRead of disk start now (parts ++ next ∷ []))
-    (length (tracks disk.format)) cause
-
 -- what becomes of all tracks of the format was written, and of those beside them the first ones'
 -- lines, and a part of the next one's
 pub record WroteIntoBesideBy (of : PartOf) (beside_of : LinesOf) (disk : DumpDisk)
@@ -245,6 +238,13 @@ pub record WroteIntoBesideBy (of : PartOf) (beside_of : LinesOf) (disk : DumpDis
       (lines_at beside_of disk.stepping disk.dumps disk.format beside.came beside.others
       (length beside.others - 1))
 
+-- a sink failed in a track, of which all files were read, or in the lines of those beside
+abbrev pub CutOfDumps : PartFault → PartOf → LinesOf → DumpDisk → (start now : ShelfNow)
+    → (image image' notes notes' : Option (List ℕ)) → Type 0
+CutOfDumps cause of beside_of disk start now =
+    CutBySink cause (λ parts next. WereRead of disk start now (parts ++ next ∷ []))
+    (WroteIntoBesideBy of beside_of disk start now) (length (tracks disk.format))
+
 -- what was written of the tracks where reading them stopped: a fault of a sink alone stops it; a
 -- dump without files was told before
 abbrev pub StopsBy : PartOf → LinesOf → DumpDisk → (start now : ShelfNow)
@@ -252,10 +252,9 @@ abbrev pub StopsBy : PartOf → LinesOf → DumpDisk → (start now : ShelfNow)
 StopsBy of beside_of disk start now image image' notes notes' ReadFault = ⊥
 StopsBy of beside_of disk start now image image' notes notes' (Refused empty) = ⊥
 StopsBy of beside_of disk start now image image' notes notes' ImageFault =
-    DumpsCutInTrack PartImageFault of disk start now image image' notes notes'
+    CutOfDumps PartImageFault of beside_of disk start now image image' notes notes'
 StopsBy of beside_of disk start now image image' notes notes' NotesFault =
-    DumpsCutInTrack PartNotesFault of disk start now image image' notes notes'
-    ⊎ WroteIntoBesideBy of beside_of disk start now image image' notes notes'
+    CutOfDumps PartNotesFault of beside_of disk start now image image' notes notes'
 
 -- all was written but the last two lines: of them a part that is shorter than they are
 pub record WroteIntoEnd (disk : DumpDisk) (start now : ShelfNow)

@@ -9,11 +9,11 @@ use Rattle.flux_base.specs.declared.status.Status.{Status}
 use Rattle.flux_base.specs.declared.status.Status.TheVariants.{AllGood, NotAllGood, Refused as RefusedStatus, ReadFault as ReadFaultStatus, ImageFault as ImageFaultStatus, NotesFault as NotesFaultStatus}
 use Rattle.flux_engine.specs.Disks.{report_over}
 use Rattle.flux_engine.specs.Needed.{ReadsUpTo, ReadsWhereOpen}
-use Rattle.g64_image.specs.Answers.{FileCutInTrack, IsTakenFile, IsWholeFile, ReadsFile}
+use Rattle.g64_image.specs.Answers.{CutOfFile, IsTakenFile, IsWholeFile, ReadsFile}
 use Rattle.g64_image.specs.Faults.{MOST_BYTES, first_fault, table_fault}
 use Rattle.g64_image.specs.FileDisks.{FileDisk, IsFileDisk, read_count}
 use Rattle.g64_image.specs.Lines.{g64_text}
-use Rattle.flux_engine.specs.declared.track_part.PartFault.TheVariants.{ImageFault as PartImageFault}
+use Rattle.flux_engine.specs.declared.track_part.PartFault.TheVariants.{ImageFault as PartImageFault, NotesFault as PartNotesFault}
 use Rattle.flux_engine.specs.declared.fault.Stopped.TheVariants.{ReadFault, ImageFault, NotesFault, Refused}
 use Rattle.g64_image.specs.declared.fault.G64Fault.{G64Fault}
 use Rattle.g64_image.specs.declared.fault.G64Fault.TheVariants.{TooLarge}
@@ -22,7 +22,7 @@ use Rattle.sector_images.specs.declared.format.Format.{Format}
 use Rattle.sector_report.specs.declared.totals.Totals.{Totals}
 use Rattle.flux_cli.specs.PlanWork.{status_by, status_of}
 use Rattle.flux_words.specs.G64Disks.{format_of}
-use Rattle.flux_cli.specs.G64Work.{CutInFileReport, IsWholeInput, file_refusal, from_g64_leaves, from_g64_outcome, from_g64_work}
+use Rattle.flux_cli.specs.G64Work.{IsWholeInput, file_refusal, from_g64_leaves, from_g64_outcome, from_g64_work}
 use Rattle.flux_cli.specs.Runs.{Does, Finished, IsCut, growth}
 use Rattle.flux_cli.specs.Work.{Got}
 use Rattle.flux_cli.specs.World.{Outside}
@@ -143,7 +143,7 @@ module _ {S W N : Type 0} (format : Format) (before after : Outside S SourceMome
         taken = f.taken;
         later = r.later;
         input = r.input;
-        place = (is.1, subst (λ x. FileCutInTrack PartImageFault format x before.image.bytes after.image.bytes before.notes.bytes after.notes.bytes) is.0 f.says.1);
+        place = (is.1, subst (λ x. CutOfFile PartImageFault format x before.image.bytes after.image.bytes before.notes.bytes after.notes.bytes) is.0 f.says.1);
       }
 
   -- the sink of the notes failed in the report
@@ -155,7 +155,7 @@ module _ {S W N : Type 0} (format : Format) (before after : Outside S SourceMome
         taken = f.taken;
         later = r.later;
         input = r.input;
-        place = inl (is.1, subst (λ x. CutInFileReport format x (growth before.image after.image) (growth before.notes after.notes)) is.0 f.says.1);
+        place = inl (is.1, subst (λ x. CutOfFile PartNotesFault format x before.image.bytes after.image.bytes before.notes.bytes after.notes.bytes) is.0 f.says.1);
       }
 
   module _ (mid : Option (List ℕ)) (fault : G64Fault)

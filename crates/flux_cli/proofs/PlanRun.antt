@@ -17,12 +17,13 @@ use Rattle.flux_engine.specs.Plans.{Planned, StopsAt, streams_in}
 use Rattle.flux_engine.specs.Tracks.{part_by}
 use Rattle.flux_engine.specs.declared.fault.Stopped.TheVariants.{ReadFault, ImageFault, NotesFault, Refused}
 use Rattle.flux_engine.specs.declared.plan.Plan.{Plan}
+use Rattle.flux_engine.specs.declared.track_part.PartFault.TheVariants.{ImageFault as PartImageFault, NotesFault as PartNotesFault}
 use Rattle.kryo_stream.specs.declared.fault.StreamFault.TheVariants.{Truncated}
 use Rattle.sector_images.specs.Places.{tracks}
 use Rattle.sector_images.specs.declared.format.Format.{Format}
 use Rattle.sector_report.specs.declared.totals.Totals.{Totals}
 use Rattle.flux_cli.specs.Endings.{EndsBy, in_image, plan_ending}
-use Rattle.flux_cli.specs.PlanWork.{CutByImage, CutByNotes, CutInReading, IsRead, planned_leaves, planned_outcome, planned_refusal, planned_work, status_by, status_of, stop_text, to_image, to_image_cut, to_notes}
+use Rattle.flux_cli.specs.PlanWork.{CutByOutput, CutInReading, IsRead, planned_leaves, planned_outcome, planned_refusal, planned_work, status_by, status_of, stop_text, to_image, to_image_cut, to_notes}
 use Rattle.flux_cli.specs.Runs.{Does, Finished, IsCut, Says, growth}
 use Rattle.flux_cli.specs.TurnsWork.{MOST_AT_ONCE}
 use Rattle.flux_cli.specs.Work.{Got, GotPart, Growth}
@@ -50,8 +51,8 @@ SaysTo plan output format taken later image notes (Err (Refused stop)) =
     × (d.stop ≡ Some stop)
     × IsTakenBehind (taken ++ later) later (stop.track * plan.captures + stop.capture) MOST_AT_ONCE
 SaysTo plan output format taken later image notes (Err ReadFault) = CutInReading plan output format taken image notes
-SaysTo plan output format taken later image notes (Err ImageFault) = CutByImage plan output format (taken ++ later) later image notes
-SaysTo plan output format taken later image notes (Err NotesFault) = CutByNotes plan output format (taken ++ later) later image notes
+SaysTo plan output format taken later image notes (Err ImageFault) = CutByOutput PartImageFault plan output format (taken ++ later) later image notes
+SaysTo plan output format taken later image notes (Err NotesFault) = CutByOutput PartNotesFault plan output format (taken ++ later) later image notes
 
 -- what was read to where its output goes
 pub record ReadsTo {S W N : Type 0} (plan : Plan) (output : Output) (format : Format) (before after : Outside S SourceMoment W N) (answer : PlanAnswer) : Type 0 where

@@ -4,8 +4,9 @@ use Rattle.std.specs.Prelude.{Some, None}
 use Rattle.flux_base.specs.declared.status.Status.{Status}
 use Rattle.flux_base.specs.declared.status.Status.TheVariants.{AllGood, NotAllGood, Refused}
 use Rattle.flux_base.specs.declared.status.Status.TheVariants.{ReadFault, ImageFault, NotesFault}
-use Rattle.g64_image.specs.Answers.{FileCutInNotes, FileCutInTrack}
+use Rattle.g64_image.specs.Answers.{CutOfFile}
 use Rattle.flux_engine.specs.declared.track_part.PartFault.TheVariants.{ImageFault as PartImageFault}
+use Rattle.flux_engine.specs.declared.track_part.PartFault.TheVariants.{NotesFault as PartNotesFault}
 use Rattle.g64_image.specs.Faults.{MOST_BYTES, first_fault}
 use Rattle.g64_image.specs.FileDisks.{FileDisk, IsFileDisk}
 use Rattle.g64_image.specs.Layout.{g64_file}
@@ -58,20 +59,16 @@ pub record CutInFileRefusal (format : Format) (x later : List ℕ)
   pub notes_got : GotPart notes (g64_text fault)
   pub left : later ≡ drop (MOST_BYTES + 1) x
 
--- a sink cut the report: in a track's lines, or in the total line
-abbrev pub CutInFileReport : Format → (x : List ℕ) → (image notes : Growth) → Type 0
-CutInFileReport format x image notes =
-    FileCutInNotes format x image.before image.after notes.before notes.after
-
 abbrev pub from_g64_cut : Format → Status → (taken later : List ℕ) → (image notes : Growth) → Type 0
 from_g64_cut format ReadFault taken later image notes = CutInFile taken image notes
 from_g64_cut format ImageFault taken later image notes =
     IsWholeInput format (taken ++ later) later
-    × FileCutInTrack PartImageFault format (taken ++ later) image.before image.after notes.before
+    × CutOfFile PartImageFault format (taken ++ later) image.before image.after notes.before
     notes.after
 from_g64_cut format NotesFault taken later image notes =
     (IsWholeInput format (taken ++ later) later
-    × CutInFileReport format (taken ++ later) image notes)
+    × CutOfFile PartNotesFault format (taken ++ later) image.before image.after notes.before
+    notes.after)
     ⊎ CutInFileRefusal format (taken ++ later) later image notes
 from_g64_cut format _ taken later image notes = ⊥
 

@@ -9,7 +9,8 @@ use Rattle.flux_base.specs.declared.status.Status.{Status}
 use Rattle.flux_base.specs.declared.status.Status.TheVariants.{AllGood, NotAllGood, Refused}
 use Rattle.flux_base.specs.declared.status.Status.TheVariants.{ReadFault, ImageFault, NotesFault}
 use Rattle.flux_engine.specs.Answers.{AppendsAndPart, IsTakenBehind}
-use Rattle.flux_engine.specs.PlanAnswers.{PlanCutInTotal, PlanCutInTrack}
+use Rattle.flux_engine.specs.PlanAnswers.{CutOfPlan}
+use Rattle.flux_engine.specs.declared.track_part.PartFault.{PartFault}
 use Rattle.flux_engine.specs.declared.track_part.PartFault.TheVariants.{ImageFault as PartImageFault}
 use Rattle.flux_engine.specs.declared.track_part.PartFault.TheVariants.{NotesFault as PartNotesFault}
 use Rattle.flux_engine.specs.Plans.{EndsInPlan, IsFirstFault, IsPlanned, PartOf, Planned}
@@ -127,45 +128,29 @@ pub record CutInRefusal (plan : Plan) (output : Output) (format : Format) (x lat
       (stop_text plan.naming stop)
   pub taken : IsTakenBehind x later (stop.track * plan.captures + stop.capture) MOST_AT_ONCE
 
--- a sink cut the report: in a track's lines, or in the total line
-abbrev pub CutInReport : Plan → Format → (x later : List ℕ) → (image notes : Growth) → Type 0
-CutInReport plan format x later image notes =
-    PlanCutInTrack PartNotesFault plan (part_by plan.naming) format x later image.before
-    image.after notes.before notes.after
-    ⊎ PlanCutInTotal plan (part_by plan.naming) format x later image.before image.after
-    notes.before notes.after
-
--- where the report stands alone, the image goes nowhere
-abbrev pub nowhere : Growth
-nowhere = record { before = None; after = None }
-
--- the sink of the image cut what it was to get
-abbrev pub CutByImage : Plan → Output → Format → (x later : List ℕ) → (image notes : Growth)
-    → Type 0
-CutByImage plan ImageAndReport format x later image notes =
-    PlanCutInTrack PartImageFault plan (part_by plan.naming) format x later image.before
-    image.after notes.before notes.after
-CutByImage plan ReportAlone format x later image notes =
-    CutInReport plan format x later nowhere image × GotNothing notes
-CutByImage plan Picture format x later image notes =
+-- A sink cut the image and the report, where both are asked for; where the report stands alone, or
+-- the picture, the sink of the image gets it, and that of the notes nothing.
+abbrev pub CutByOutput : PartFault → Plan → Output → Format → (x later : List ℕ)
+    → (image notes : Growth) → Type 0
+CutByOutput cause plan ImageAndReport format x later image notes =
+    CutOfPlan cause plan (part_by plan.naming) format x later image.before image.after notes.before
+    notes.after
+CutByOutput PartImageFault plan ReportAlone format x later image notes =
+    CutOfPlan PartNotesFault plan (part_by plan.naming) format x later None None image.before
+    image.after
+    × GotNothing notes
+CutByOutput PartImageFault plan Picture format x later image notes =
     StoppedInPicture plan format x later image.before image.after × GotNothing notes
-
--- the sink of the notes cut the report, if that goes there
-abbrev pub CutByNotes : Plan → Output → Format → (x later : List ℕ) → (image notes : Growth)
-    → Type 0
-CutByNotes plan ImageAndReport format x later image notes =
-    CutInReport plan format x later image notes
-CutByNotes plan ReportAlone format x later image notes = ⊥
-CutByNotes plan Picture format x later image notes = ⊥
+CutByOutput PartNotesFault plan _ format x later image notes = ⊥
 
 abbrev pub planned_cut : Plan → Output → Format → Status → (taken later : List ℕ)
     → (image notes : Growth) → Type 0
 planned_cut plan output format ReadFault taken later image notes =
     CutInReading plan output format taken image notes
 planned_cut plan output format ImageFault taken later image notes =
-    CutByImage plan output format (taken ++ later) later image notes
+    CutByOutput PartImageFault plan output format (taken ++ later) later image notes
 planned_cut plan output format NotesFault taken later image notes =
-    CutByNotes plan output format (taken ++ later) later image notes
+    CutByOutput PartNotesFault plan output format (taken ++ later) later image notes
     ⊎ CutInRefusal plan output format (taken ++ later) later image notes
 planned_cut plan output format _ taken later image notes = ⊥
 

@@ -9,7 +9,6 @@ use Rattle.std.proofs.lemmas.Bool.{cases_lt}
 use Rattle.std.proofs.lemmas.List.{get_or_append_left, length-map, length-take, length_push, take_all}
 use Rattle.std.proofs.lemmas.List.Sums.{count_by-le-length, sum_by-append}
 use Rattle.std.proofs.lemmas.Nat.{mul-add-lt}
-use Rattle.flux_base.specs.Outside.{AppendsPart}
 use Rattle.sector_images.specs.Places.{tracks}
 use Rattle.sector_images.specs.declared.format.Format.{Format}
 use Rattle.sector_report.specs.declared.dump_lines.Passed.{Passed}
@@ -18,11 +17,9 @@ use Rattle.turn_merge.specs.Book.{StandsFor}
 use Rattle.turn_merge.specs.Others.{MOST_TOLD, NotedOther, OthersKnown, OthersStandFor, first_ones, has_data, has_untold, others_over, told_of}
 use Rattle.turn_merge.specs.declared.others.OtherTold.{OtherTold}
 use Rattle.turn_merge.specs.Readings.{NotedReading}
-use Rattle.flux_engine.specs.Answers.{AppendsAndPart}
 use Rattle.flux_engine.specs.Captured.{AreOthersOf, AreReadingsOf}
 use Rattle.flux_engine.specs.Counts.{AreCountsBelow, AreOthersOver, CountsTrack, counted, lost_in, names_of, told_count, whole_count, whole_names_of}
 use Rattle.flux_engine.specs.Disks.{images, lines, no_totals, totals_over}
-use Rattle.flux_engine.specs.Cut.{WritesFront}
 use Rattle.flux_engine.specs.LoopProgress.{AreWhole, EndedBySink, EndedInTrack, HasGathered, HasTakenNext, HasWritten, lost_count, passed_count, seen_at, streams_over}
 use Rattle.flux_engine.specs.PlanAnswers.{of_part, of_stream}
 use Rattle.flux_engine.specs.Plans.{AreCaptures, AreOthersTo, ArePlannedParts, PartOf, Seen, Streams, is_failed, joined, passed_one, passed_to}
@@ -35,7 +32,7 @@ use Rattle.kryo_stream.specs.declared.fault.CaptureFault.{CaptureFault}
 use Rattle.flux_engine.specs.declared.gathered_track.PassedStream.{PassedStream}
 use Rattle.flux_engine.specs.declared.plan.Plan.{Plan}
 use Rattle.flux_engine.specs.declared.track_part.PartFault.{PartFault}
-use Rattle.flux_engine.specs.declared.track_part.PartFault.TheVariants.{ImageFault, NotesFault}
+use Rattle.flux_engine.specs.lemmas.Cuts.{front-cut}
 use Rattle.flux_engine.specs.lemmas.PartLaws.{images-more, lines-more, totals-more}
 use Rattle.flux_engine.proofs.PlanParts.{IsCapture, captures-more, joined-more, parts-more}
 
@@ -332,9 +329,6 @@ written_start plan of format Came image notes room totals is none came = record 
   sound = ap (λ (r : RoomState). r.failed) is;
 }
 
-and_part : (old between new : Option (List ℕ)) (whole more_bytes : List ℕ) → Appends old between whole → AppendsPart between new more_bytes → AppendsAndPart old new whole more_bytes
-and_part old between new whole more_bytes first (k, within, then) = (k, within, Appends-trans old between new whole (take k more_bytes) first then)
-
 module _ (plan : Plan) (of : PartOf) (format : Format) (Came Came' : List ℕ → Bool → List Seen → Type 0) (image imid image' notes nmid notes' : Option (List ℕ)) (room room' : RoomState) (n : ℕ)
     (totals : Totals) (h : HasWritten plan of format Came image imid notes nmid room n totals) (c : HasGathered plan format n Came' h.streams room' plan.captures) where
   abbrev pub part : TrackPart
@@ -388,14 +382,6 @@ module _ (plan : Plan) (of : PartOf) (format : Format) (Came Came' : List ℕ �
     sound = sound;
   }
 
-  front : (fault : PartFault) → WritesPart part imid image' nmid notes' (Err fault) → WritesFront fault h.parts part image image' notes notes'
-  front ImageFault wrote =
-      (and_part image imid image' (images h.parts) part.image h.image_grew wrote.0, subst (λ (w : Option (List ℕ)). Appends notes w (lines h.parts)) (sym wrote.1) h.notes_grew)
-  front NotesFault wrote = (
-    subst (Appends image image') (sym (images-more h.parts part)) (Appends-trans image imid image' (images h.parts) part.image h.image_grew wrote.0),
-    and_part notes nmid notes' (lines h.parts) part.lines h.notes_grew wrote.1,
-  )
-
   -- a sink failed as the track was written
   pub ended_by_sink : (fault : PartFault) → n < length (tracks format) → WritesPart part imid image' nmid notes' (Err fault)
       → EndedBySink plan of format Came' image image' notes notes' room' (of_part fault)
@@ -409,6 +395,6 @@ module _ (plan : Plan) (of : PartOf) (format : Format) (Came Came' : List ℕ �
     whole = c.whole;
     each = more;
     cause = fault;
-    wrote = front fault wrote;
+    wrote = front-cut h.parts part image imid image' notes nmid notes' h.image_grew h.notes_grew fault wrote;
     is = refl;
   }

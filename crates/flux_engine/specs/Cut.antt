@@ -1,6 +1,6 @@
 -- What was written of a disk where a sink failed, whatever the disk was read of: its tracks are
 -- written one after another.
-use Rattle.std.specs.Prelude.{◌≡◌, ◌<◌, ℕ, List, [], ◌∷◌, ◌++◌, length, Option}
+use Rattle.std.specs.Prelude.{◌≡◌, ◌<◌, ◌⊎◌, ℕ, List, [], ◌∷◌, ◌++◌, length, Option}
 use Rattle.std.specs.Io.KnownBytes.{Appends}
 use Rattle.sector_report.specs.Lines.{total_text}
 use Rattle.flux_engine.specs.Answers.{AppendsAndPart}
@@ -38,3 +38,14 @@ pub record CutInTotal (Are : List TrackPart → Type 0) (count : ℕ)
   pub many : length parts ≡ count
   pub image_grew : Appends image image' (images parts)
   pub notes_grew : AppendsAndPart notes notes' (lines parts) (total_text (totals_over parts))
+
+-- A sink failed while so many tracks were written: that of the image in a track; that of the notes
+-- in a track, or behind all.
+abbrev pub CutBySink : PartFault → (Are : (parts : List TrackPart) → (next : TrackPart) → Type 0)
+    → (Behind : (image image' notes notes' : Option (List ℕ)) → Type 0) → (count : ℕ)
+    → (image image' notes notes' : Option (List ℕ)) → Type 0
+CutBySink ImageFault Are Behind count image image' notes notes' =
+    CutInTrack Are count ImageFault image image' notes notes'
+CutBySink NotesFault Are Behind count image image' notes notes' =
+    CutInTrack Are count NotesFault image image' notes notes'
+    ⊎ Behind image image' notes notes'

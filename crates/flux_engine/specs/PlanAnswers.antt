@@ -1,6 +1,6 @@
 -- What reading a disk by a plan may answer, and what that says of the input and
 -- of the bytes that were written.
-use Rattle.std.specs.Prelude.{◌≡◌, ◌⊎◌, ℕ, ◌+◌, ◌*◌, Bool, List, [], ◌∷◌, ◌++◌, length, Option}
+use Rattle.std.specs.Prelude.{◌≡◌, ℕ, ◌+◌, ◌*◌, Bool, List, [], ◌∷◌, ◌++◌, length, Option}
 use Rattle.std.specs.Prelude.{Some, None, Result, Ok, Err, OnOk}
 use Rattle.std.specs.Io.KnownBytes.{Appends, Consumes, IsAtEnd}
 use Rattle.flux_base.specs.declared.track.TrackId.{TrackId}
@@ -9,7 +9,7 @@ use Rattle.turn_merge.specs.Others.{NotedOther, OthersKnown}
 use Rattle.turn_merge.specs.Readings.{NotedReading}
 use Rattle.flux_engine.specs.Answers.{CaptureAnswer, IsTakenBehind, ReadsStream}
 use Rattle.flux_engine.specs.Captured.{AppendsOthers, AppendsReadings, AreOthersOf, AreReadingsOf}
-use Rattle.flux_engine.specs.Cut.{CutInTotal, CutInTrack}
+use Rattle.flux_engine.specs.Cut.{CutBySink, CutInTotal}
 use Rattle.flux_engine.specs.declared.track_part.PartFault.{PartFault}
 use Rattle.flux_engine.specs.declared.track_part.PartFault.TheVariants.{ImageFault as PartImageFault}
 use Rattle.flux_engine.specs.declared.track_part.PartFault.TheVariants.{NotesFault as PartNotesFault}
@@ -89,24 +89,19 @@ pub record WrotePlanned (plan : Plan) (of : PartOf) (format : Format) (x : List 
   pub image_grew : Appends image image' o.image
   pub notes_grew : Appends notes notes' o.notes
 
--- a sink failed in a track, of which all captures were taken
-abbrev pub PlanCutInTrack : PartFault → Plan → PartOf → Format → (x later : List ℕ)
+-- a sink failed in a track, of which all captures were taken, or behind all tracks
+abbrev pub CutOfPlan : PartFault → Plan → PartOf → Format → (x later : List ℕ)
     → (image image' notes notes' : Option (List ℕ)) → Type 0
-PlanCutInTrack cause plan of format x later =
-    CutInTrack
+CutOfPlan cause plan of format x later =
+    CutBySink cause
     (λ parts next.
     ArePlannedParts plan of format (streams_in plan x) (parts ++ next ∷ [])
     × IsTakenBehind x later (length parts * plan.captures) (most_of_track plan))
-    (length (tracks format)) cause
-
--- the sink of the notes failed behind all tracks
-abbrev pub PlanCutInTotal : Plan → PartOf → Format → (x later : List ℕ)
-    → (image image' notes notes' : Option (List ℕ)) → Type 0
-PlanCutInTotal plan of format x later =
-    CutInTotal
+    (CutInTotal
     (λ parts.
     ArePlannedParts plan of format (streams_in plan x) parts
     × IsTakenBehind x later (length parts * plan.captures) 4096)
+    (length (tracks format)))
     (length (tracks format))
 
 -- What the answer says of the input x, which has bytes `later` that were not taken.
@@ -124,10 +119,9 @@ SaysOfPlanned plan of format x later image image' notes notes' (Err ReadFault) =
     (o : Planned) × (stop : RefusedCapture) × WrotePlanned plan of format x image image' notes notes' o
     × (o.stop ≡ Some stop) × (stop.fault ≡ Truncated)
 SaysOfPlanned plan of format x later image image' notes notes' (Err ImageFault) =
-    PlanCutInTrack PartImageFault plan of format x later image image' notes notes'
+    CutOfPlan PartImageFault plan of format x later image image' notes notes'
 SaysOfPlanned plan of format x later image image' notes notes' (Err NotesFault) =
-    PlanCutInTrack PartNotesFault plan of format x later image image' notes notes'
-    ⊎ PlanCutInTotal plan of format x later image image' notes notes'
+    CutOfPlan PartNotesFault plan of format x later image image' notes notes'
 
 -- A call that reads a disk from a fresh room: it took these bytes, and what it says is right
 -- whatever follows them, unless it is of them alone.

@@ -18,3 +18,4 @@ pub mod NoneAgreed
 pub mod Blamed
 pub mod TrackAt
 pub mod PlanStops
+pub mod Cuts

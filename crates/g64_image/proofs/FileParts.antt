@@ -9,8 +9,9 @@ use Rattle.std.proofs.Math.Seq.{get_or-append_seam}
 use Rattle.flux_base.specs.Outside.{AppendsPart}
 use Rattle.flux_base.specs.declared.track.TrackId.{TrackId}
 use Rattle.flux_engine.specs.Answers.{AppendsAndPart}
-use Rattle.flux_engine.specs.Cut.{WritesFront}
+use Rattle.flux_engine.specs.Cut.{CutInTotal}
 use Rattle.flux_engine.specs.Disks.{images, lines, no_totals, part_at, report_over, totals_over}
+use Rattle.flux_engine.specs.lemmas.Cuts.{front-cut, in-track}
 use Rattle.flux_engine.specs.lemmas.TrackAt.{track_is}
 use Rattle.flux_engine.specs.lemmas.PartLaws.{images-more, lines-more, totals-more}
 use Rattle.flux_engine.specs.Recordings.{track_at}
@@ -18,7 +19,6 @@ use Rattle.flux_engine.specs.TrackParts.{WritesPart}
 use Rattle.flux_engine.specs.Tracks.{TrackPart, part_of}
 use Rattle.flux_engine.specs.Writing.{sum_of}
 use Rattle.flux_engine.specs.declared.track_part.PartFault.{PartFault}
-use Rattle.flux_engine.specs.declared.track_part.PartFault.TheVariants.{ImageFault, NotesFault}
 use Rattle.sector_images.specs.Places.{tracks}
 use Rattle.sector_images.specs.declared.format.Format.{Format}
 use Rattle.sector_report.specs.Lines.{total_text}
@@ -104,26 +104,19 @@ module _ (format : Format) (file : List ℕ) (image imid image' notes nmid notes
             ∙ sym (totals-more h.parts here);
       }
 
-  and_part : (old between new : Option (List ℕ)) (whole more_bytes : List ℕ) → Appends old between whole → AppendsPart between new more_bytes
-      → AppendsAndPart old new whole more_bytes
-  and_part old between new whole more_bytes first (k, within, then) = (k, within, Appends-trans old between new whole (take k more_bytes) first then)
-
-  front : (fault : PartFault) → WritesPart here imid image' nmid notes' (Err fault) → WritesFront fault h.parts here image image' notes notes'
-  front ImageFault w = (
-    and_part image imid image' (images h.parts) here.image h.image_grew w.0,
-    subst (λ (i : Option (List ℕ)). Appends notes i (lines h.parts)) (sym w.1) h.notes_grew,
-  )
-  front NotesFault w = (
-    subst (Appends image image') (sym (images-more h.parts here)) (Appends-trans image imid image' (images h.parts) here.image h.image_grew w.0),
-    and_part notes nmid notes' (lines h.parts) here.lines h.notes_grew w.1,
-  )
-
   pub read_stop : (fault : PartFault) → n < length (tracks format)
       → ((readings : List NotedReading) → StandsFor book readings → WritesPart (part_of format (track_at format n) readings) imid image' nmid notes' (Err fault))
       → WasStopped format file image image' notes notes' (Err fault)
   unfolding here
   read_stop fault low wrote =
-      record { parts = h.parts; next = here; are = more; few = omega (arith, low, h.many); wrote = front fault (wrote gathered.readings gathered.stands) }
+      in-track (λ parts next. AreFileParts format file (parts ++ next ∷ [])) (CutInTotal (AreFileParts format file) (length (tracks format))) (length (tracks format))
+      image image' notes notes' fault (record {
+        parts = h.parts;
+        next = here;
+        are = more;
+        few = omega (arith, low, h.many);
+        wrote = front-cut h.parts here image imid image' notes nmid notes' h.image_grew h.notes_grew fault (wrote gathered.readings gathered.stands);
+      })
 
 module _ (format : Format) (file : List ℕ) (left' image image' notes nmid notes' : Option (List ℕ)) (totals : Totals)
     (h : HasRead format file image image' notes nmid (length (tracks format)) totals) (whole : IsWholeFile format file left') where

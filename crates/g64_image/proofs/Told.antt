@@ -6,10 +6,10 @@ use Rattle.std.proofs.lemmas.List.{drop_all}
 use Rattle.std.proofs.Math.Seq.{drop-append_seam}
 use Rattle.std.specs.Io.KnownBytes.{Consumes}
 use Rattle.sector_images.specs.declared.format.Format.{Format}
-use Rattle.g64_image.specs.Answers.{FileCutInNotes, FileCutInTrack, FromAnswer, IsTakenFile, IsWholeFile, ReadsFile, SaysOfFileBytes, WroteAll}
+use Rattle.g64_image.specs.Answers.{CutOfFile, FromAnswer, IsTakenFile, IsWholeFile, ReadsFile, SaysOfFileBytes, WroteAll}
 use Rattle.g64_image.specs.Faults.{MOST_BYTES, first_fault}
 use Rattle.flux_engine.specs.declared.fault.Stopped.TheVariants.{ReadFault, ImageFault, NotesFault, Refused}
-use Rattle.flux_engine.specs.declared.track_part.PartFault.TheVariants.{ImageFault as PartImageFault}
+use Rattle.flux_engine.specs.declared.track_part.PartFault.TheVariants.{ImageFault as PartImageFault, NotesFault as PartNotesFault}
 use Rattle.g64_image.specs.declared.fault.G64Fault.{G64Fault}
 use Rattle.g64_image.specs.declared.fault.G64Fault.TheVariants.{TooLarge}
 use Rattle.g64_image.proofs.Sound.{too_large}
@@ -52,7 +52,7 @@ told-file format x left' image image' notes notes' (Err (Refused fault)) f =
 told-file format x left' image image' notes notes' (Err ReadFault) f = (f.taken, f.consumed, f.says.0, f.says.1, f.says.2)
 told-file format x left' image image' notes notes' (Err ImageFault) f =
     let w = told-whole format x f.taken left' f.consumed f.says.0 in
-    (w.1, w.2, subst (λ y. FileCutInTrack PartImageFault format y image image' notes notes') w.0 f.says.1)
+    (w.1, w.2, subst (λ y. CutOfFile PartImageFault format y image image' notes notes') w.0 f.says.1)
 told-file format x left' image image' notes notes' (Err NotesFault) f =
     let w = told-whole format x f.taken left' f.consumed f.says.0 in
-    (w.1, w.2, subst (λ y. FileCutInNotes format y image image' notes notes') w.0 f.says.1)
+    (w.1, w.2, subst (λ y. CutOfFile PartNotesFault format y image image' notes notes') w.0 f.says.1)

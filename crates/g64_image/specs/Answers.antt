@@ -1,10 +1,10 @@
 -- What the calls that write and read files may answer, and what that says of the
 -- bytes that were taken and written.
-use Rattle.std.specs.Prelude.{◌≡◌, ◌≤◌, ◌⊎◌, ℕ, ◌+◌, List, [], ◌∷◌, ◌++◌, drop, length, Option}
+use Rattle.std.specs.Prelude.{◌≡◌, ◌≤◌, ℕ, ◌+◌, List, [], ◌∷◌, ◌++◌, drop, length, Option}
 use Rattle.std.specs.Prelude.{Some, None, Result, Ok, Err}
 use Rattle.std.specs.Io.KnownBytes.{Appends, Consumes, IsAtEnd}
 use Rattle.flux_base.specs.Outside.{Rose}
-use Rattle.flux_engine.specs.Cut.{CutInTotal, CutInTrack}
+use Rattle.flux_engine.specs.Cut.{CutBySink, CutInTotal}
 use Rattle.flux_engine.specs.Writes.{Answer, SaysOfMade, WritesMade}
 use Rattle.flux_engine.specs.declared.fault.Stopped.{Stopped}
 use Rattle.sector_images.specs.Places.{tracks}
@@ -43,19 +43,12 @@ pub record IsTakenFile (taken : List ℕ) (left' : Option (List ℕ)) : Type 0 w
   pub most : length taken ≤ MOST_BYTES + 1
   pub ended : length taken ≤ MOST_BYTES → IsAtEnd left'
 
--- a sink failed in a track
-abbrev pub FileCutInTrack : PartFault → Format → (file : List ℕ)
+-- a sink failed in a track, or behind all tracks
+abbrev pub CutOfFile : PartFault → Format → (file : List ℕ)
     → (image image' notes notes' : Option (List ℕ)) → Type 0
-FileCutInTrack cause format file =
-    CutInTrack (λ parts next. AreFileParts format file (parts ++ next ∷ []))
-    (length (tracks format)) cause
-
--- the sink of the notes failed: in a track, or behind all tracks
-abbrev pub FileCutInNotes : Format → (file : List ℕ)
-    → (image image' notes notes' : Option (List ℕ)) → Type 0
-FileCutInNotes format file image image' notes notes' =
-    FileCutInTrack PartNotesFault format file image image' notes notes'
-    ⊎ CutInTotal (AreFileParts format file) (length (tracks format)) image image' notes notes'
+CutOfFile cause format file =
+    CutBySink cause (λ parts next. AreFileParts format file (parts ++ next ∷ []))
+    (CutInTotal (AreFileParts format file) (length (tracks format))) (length (tracks format))
 
 -- a file without a fault was taken to its end
 pub record IsWholeFile (format : Format) (file : List ℕ) (left' : Option (List ℕ)) : Type 0 where
@@ -82,9 +75,10 @@ SaysOfFile format taken left' image image' notes notes' (Err ReadFault) =
     (length taken ≤ MOST_BYTES) × (image' ≡ image) × (notes' ≡ notes)
 SaysOfFile format taken left' image image' notes notes' (Err ImageFault) =
     IsWholeFile format taken left'
-    × FileCutInTrack PartImageFault format taken image image' notes notes'
+    × CutOfFile PartImageFault format taken image image' notes notes'
 SaysOfFile format taken left' image image' notes notes' (Err NotesFault) =
-    IsWholeFile format taken left' × FileCutInNotes format taken image image' notes notes'
+    IsWholeFile format taken left'
+    × CutOfFile PartNotesFault format taken image image' notes notes'
 
 -- A call that reads a file: it took these bytes.
 pub record ReadsFile (format : Format) (left left' image image' notes notes' : Option (List ℕ))
@@ -108,10 +102,10 @@ SaysOfFileBytes format x left' image image' notes notes' (Err ReadFault) =
     × (image' ≡ image) × (notes' ≡ notes)
 SaysOfFileBytes format x left' image image' notes notes' (Err ImageFault) =
     (first_fault format x ≡ None) × (left' ≡ Some [])
-    × FileCutInTrack PartImageFault format x image image' notes notes'
+    × CutOfFile PartImageFault format x image image' notes notes'
 SaysOfFileBytes format x left' image image' notes notes' (Err NotesFault) =
     (first_fault format x ≡ None) × (left' ≡ Some [])
-    × FileCutInNotes format x image image' notes notes'
+    × CutOfFile PartNotesFault format x image image' notes notes'
 
 -- the file was read, or has a fault
 abbrev pub IsReadOrRefused : FromAnswer → Type 0

@@ -6,7 +6,7 @@ use Rattle.flux_engine.specs.Tracks.{TrackPart}
 use Rattle.flux_engine.specs.declared.track_part.PartFault.{PartFault}
 use Rattle.sector_images.specs.declared.format.Format.{Format}
 use Rattle.sector_report.specs.declared.totals.Totals.{Totals}
-use Rattle.g64_image.specs.Answers.{FileCutInTrack}
+use Rattle.g64_image.specs.Answers.{CutOfFile}
 use Rattle.g64_image.specs.FileDisks.{AreFileParts}
 
 -- The first n tracks of a file are written whole.
@@ -24,4 +24,4 @@ abbrev pub WasStopped : Format → (file : List ℕ) → (image image' notes not
     → Result Totals PartFault → Type 0
 WasStopped format file image image' notes notes' (Ok totals) = Unit {0}
 WasStopped format file image image' notes notes' (Err cause) =
-    FileCutInTrack cause format file image image' notes notes'
+    CutOfFile cause format file image image' notes notes'

@@ -4,11 +4,12 @@ use Rattle.std.proofs.Common.{ap, sym, subst, ◌∙◌, arith, inl, inr}
 use Rattle.sector_images.specs.Places.{tracks}
 use Rattle.sector_images.specs.declared.format.Format.{Format}
 use Rattle.sector_report.specs.declared.naming.Naming.TheVariants.{Unnamed}
-use Rattle.library_calls.specs.Answers.{DecodesDisk, DiskCutInTrack, IsOfBytesAtHand, IsTruncated, SaysOfDisk, WroteAll, engine_answer}
+use Rattle.library_calls.specs.Answers.{CutOfDisk, DecodesDisk, IsOfBytesAtHand, IsTruncated, SaysOfDisk, WroteAll, engine_answer}
 use Rattle.flux_engine.specs.Answers.{IsTakenBehind}
+use Rattle.flux_engine.specs.Cut.{CutInTrack}
 use Rattle.library_calls.specs.Disks.{AreParts, Decoded, IsDecoded, IsPartAt, decoded_count}
 use Rattle.flux_engine.specs.Disks.{part_at, report_over}
-use Rattle.flux_engine.specs.PlanAnswers.{DecodesPlanned, IsOfBytesTaken, PlanAnswer, PlanCutInTrack, SaysOfPlanned, SaysTruncated, WrotePlanned}
+use Rattle.flux_engine.specs.PlanAnswers.{CutOfPlan, DecodesPlanned, IsOfBytesTaken, PlanAnswer, SaysOfPlanned, SaysTruncated, WrotePlanned}
 use Rattle.flux_engine.specs.Plans.{ArePlannedParts, IsFirstFault, IsPlanned, IsPlannedPart, Planned, StopsAt, decoding, planned_count, streams_in}
 use Rattle.flux_engine.specs.Tracks.{TrackPart, part_by}
 use Rattle.flux_engine.specs.declared.fault.RefusedCapture.{RefusedCapture}
@@ -59,8 +60,10 @@ module _ (format : Format) (x later : List ℕ) (image image' notes notes' : Opt
       let f : IsFirstFault decoding format (streams_in decoding x) stop = subst (StopsAt decoding format (streams_in decoding x)) is p.stops in
       omega (arith, f.few)
 
-  cut_in_track : (cause : PartFault) → PlanCutInTrack cause decoding (part_by Unnamed) format x later image image' notes notes'
-      → DiskCutInTrack cause format x later image image' notes notes'
+  cut_in_track : (cause : PartFault)
+      → CutInTrack (λ parts next. ArePlannedParts decoding (part_by Unnamed) format (streams_in decoding x) (parts ++ next ∷ []) × IsTakenBehind x later (length parts * 1) 4198416)
+      (length (tracks format)) cause image image' notes notes'
+      → CutInTrack (λ parts next. AreParts format x (parts ++ next ∷ []) × IsTakenBehind x later (length parts) 4198416) (length (tracks format)) cause image image' notes notes'
   cut_in_track cause s = record {
     parts = s.parts;
     next = s.next;
@@ -72,6 +75,18 @@ module _ (format : Format) (x later : List ℕ) (image image' notes notes' : Opt
     wrote = s.wrote;
   }
 
+  cut_of_disk : (cause : PartFault) → CutOfPlan cause decoding (part_by Unnamed) format x later image image' notes notes'
+      → CutOfDisk cause format x later image image' notes notes'
+  cut_of_disk PartImageFault s = cut_in_track PartImageFault s
+  cut_of_disk PartNotesFault (inl s) = inl (cut_in_track PartNotesFault s)
+  cut_of_disk PartNotesFault (inr s) = inr (record {
+    parts = s.parts;
+    are = (one_parts format x s.parts s.are.0, behind_one (length s.parts * 1) (length s.parts) 4096 (omega arith) s.are.1);
+    many = s.many;
+    image_grew = s.image_grew;
+    notes_grew = s.notes_grew;
+  })
+
   says_of_disk : (answer : PlanAnswer) → SaysOfPlanned decoding (part_by Unnamed) format x later image image' notes notes' answer
       → SaysOfDisk format x later image image' notes notes' (engine_answer answer)
   says_of_disk (Ok totals) (o, wrote, none, are, taken) =
@@ -81,15 +96,8 @@ module _ (format : Format) (x later : List ℕ) (image image' notes notes' : Opt
       (plain o, wrote_all o wrote, ap plain_stop stops, behind_one (stop.track * 1 + stop.capture) stop.track 4198416 (omega (arith, first)) taken)
   says_of_disk (Err ReadFault) (o, stop, wrote, stops, cut) =
       (plain o, record { track = stop.track; block = stop.block; fault = stop.fault }, wrote_all o wrote, ap plain_stop stops, cut)
-  says_of_disk (Err ImageFault) s = cut_in_track PartImageFault s
-  says_of_disk (Err NotesFault) (inl s) = inl (cut_in_track PartNotesFault s)
-  says_of_disk (Err NotesFault) (inr s) = inr (record {
-    parts = s.parts;
-    are = (one_parts format x s.parts s.are.0, behind_one (length s.parts * 1) (length s.parts) 4096 (omega arith) s.are.1);
-    many = s.many;
-    image_grew = s.image_grew;
-    notes_grew = s.notes_grew;
-  })
+  says_of_disk (Err ImageFault) s = cut_of_disk PartImageFault s
+  says_of_disk (Err NotesFault) s = cut_of_disk PartNotesFault s
 
 at_hand : (answer : PlanAnswer) → IsOfBytesTaken answer → IsOfBytesAtHand (engine_answer answer)
 at_hand (Ok totals) cannot = cannot

@@ -1,6 +1,6 @@
 -- What the calls that decode may answer, and what that says of the input and
 -- of the bytes that were written.
-use Rattle.std.specs.Prelude.{◌≡◌, ◌≤◌, ◌⊎◌, ℕ, Bool, List, [], ◌∷◌, ◌++◌, length, Option}
+use Rattle.std.specs.Prelude.{◌≡◌, ◌≤◌, ℕ, Bool, List, [], ◌∷◌, ◌++◌, length, Option}
 use Rattle.std.specs.Prelude.{Some, None, Result, Ok, Err, OnOk}
 use Rattle.std.specs.Io.KnownBytes.{Appends, Consumes, IsAtEnd}
 use Rattle.flux_base.specs.Outside.{Rose, AppendsPart}
@@ -15,7 +15,7 @@ use Rattle.turn_merge.specs.Book.{Knowledge}
 use Rattle.turn_merge.specs.Readings.{NotedReading}
 use Rattle.flux_engine.specs.Captured.{AppendsReadings, AreReadingsAt}
 use Rattle.library_calls.specs.Disks.{Stop, Decoded, IsDecoded, AreParts, IsPart, stop_of}
-use Rattle.flux_engine.specs.Cut.{CutInTotal, CutInTrack}
+use Rattle.flux_engine.specs.Cut.{CutBySink, CutInTotal}
 use Rattle.flux_engine.specs.Tracks.{TrackPart}
 use Rattle.kryo_stream.specs.declared.fault.CaptureFault.{CaptureFault}
 use Rattle.kryo_stream.specs.declared.fault.CaptureFault.TheVariants.{ReadFault as UnreadCapture}
@@ -132,20 +132,16 @@ pub record WroteAll (format : Format) (x : List ℕ) (image image' notes notes' 
   pub image_grew : Appends image image' o.image
   pub notes_grew : Appends notes notes' o.notes
 
--- a sink failed in a track, of which the stream was taken
-abbrev pub DiskCutInTrack : PartFault → Format → (x later : List ℕ)
+-- a sink failed in a track, of which the stream was taken, or behind all tracks
+abbrev pub CutOfDisk : PartFault → Format → (x later : List ℕ)
     → (image image' notes notes' : Option (List ℕ)) → Type 0
-DiskCutInTrack cause format x later =
-    CutInTrack
+CutOfDisk cause format x later =
+    CutBySink cause
     (λ parts next.
     AreParts format x (parts ++ next ∷ [])
-    × IsTakenBehind x later (length parts) 4198416) (length (tracks format)) cause
-
--- the sink of the notes failed behind all tracks
-abbrev pub DiskCutInTotal : Format → (x later : List ℕ)
-    → (image image' notes notes' : Option (List ℕ)) → Type 0
-DiskCutInTotal format x later =
-    CutInTotal (λ parts. AreParts format x parts × IsTakenBehind x later (length parts) 4096)
+    × IsTakenBehind x later (length parts) 4198416)
+    (CutInTotal (λ parts. AreParts format x parts × IsTakenBehind x later (length parts) 4096)
+    (length (tracks format)))
     (length (tracks format))
 
 -- What the answer says of the input x, which has bytes `later` that were not taken.
@@ -163,10 +159,9 @@ SaysOfDisk format x later image image' notes notes' (Err ReadFault) =
     (o : Decoded) × (stop : Stop) × WroteAll format x image image' notes notes' o
     × (o.stop ≡ Some stop) × (stop.fault ≡ Truncated)
 SaysOfDisk format x later image image' notes notes' (Err ImageFault) =
-    DiskCutInTrack PartImageFault format x later image image' notes notes'
+    CutOfDisk PartImageFault format x later image image' notes notes'
 SaysOfDisk format x later image image' notes notes' (Err NotesFault) =
-    DiskCutInTrack PartNotesFault format x later image image' notes notes'
-    ⊎ DiskCutInTotal format x later image image' notes notes'
+    CutOfDisk PartNotesFault format x later image image' notes notes'
 
 -- A call that decodes a disk from a fresh room: it took these bytes, and what it says is right
 -- whatever follows them, unless it is of them alone.

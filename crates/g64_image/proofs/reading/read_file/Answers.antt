@@ -1,4 +1,4 @@
-use Rattle.std.proofs.Common.{true, false, inl, sym, subst}
+use Rattle.std.proofs.Common.{true, false, sym, subst}
 use Rattle.std.specs.Io.KnownBytes.{Appends}
 use Rattle.flux_base.specs.lemmas.Blaming.{CountsBy-notes, CountsBy-then}
 use Rattle.flux_base.specs.Outside.{AppendsPart}
@@ -17,7 +17,7 @@ pub returns-in-Err-NotesFault-clause-says : goal.returns-in-Err-NotesFault-claus
 returns-in-Err-NotesFault-clause-says g c = λ left file.
     let none = sym c.in-None.ensures.value in
     let whole : IsWholeFile c.args.format c.args.file.now left = record { no_fault = none; ended = file.ended (not_large c.args.format c.args.file.now none) } in
-    (whole, inl (rw c.in-Err-NotesFault.field-0-is at c.in-Err-NotesFault.ensures.err))
+    (whole, (rw c.in-Err-NotesFault.field-0-is at c.in-Err-NotesFault.ensures.err))
 
 pub returns-in-Ok-write_line-clause-says : goal.returns-in-Ok-write_line-clause-says
 returns-in-Ok-write_line-clause-says g c = λ left file.
