@@ -1,6 +1,6 @@
 -- No other stands in the recovered cells of a captured track.
-use Rattle.std.specs.Prelude.{◌≡◌, ◌<◌, ℕ, ◌+◌, ◌-◌, Bool, List, [], ◌++◌, length, map, slice_index, unwrap_or, Option}
-use Rattle.std.proofs.Common.{ap, append-nil, sym, subst, ◌∙◌}
+use Rattle.std.specs.Prelude.{◌<◌, ℕ, ◌+◌, ◌-◌, Bool, List, [], length, map, slice_index, unwrap_or, Option}
+use Rattle.std.proofs.Common.{ap, append-nil, sym, subst}
 use Rattle.flux_base.specs.declared.track.TrackId.{TrackId}
 use Rattle.disk_recordings.specs.Laws.{AreTrackBytes, NoOtherStands}
 use Rattle.disk_recordings.specs.Members.{as_controllers_read, header_at, named_at, ring_at}

@@ -1,7 +1,7 @@
 -- The verdict over the readings of several captures, none of which alone makes the sector good with other bytes.
-use Rattle.std.specs.Prelude.{◌≡◌, ◌<◌, ℕ, zero, suc, Bool, true, false, not, cond, List, [], ◌∷◌, length, get_or, is_none, Option, Some, None, if◌then◌else◌, refl}
+use Rattle.std.specs.Prelude.{◌≡◌, ℕ, Bool, true, false, not, cond, List, [], ◌∷◌, length, is_none, Option, Some, None, if◌then◌else◌, refl}
 use Rattle.std.specs.Str.{bytes_eq}
-use Rattle.std.proofs.Common.{ap, sym, subst, ◌∙◌, arith}
+use Rattle.std.proofs.Common.{ap, sym, subst, ◌∙◌}
 use Rattle.std.proofs.lemmas.Slice.Eq.{bytes_eq-Decides}
 use Rattle.turn_merge.specs.Readings.{NotedReading, agreed, agreed_of, bad_ones, bytes_of, first_other, good_ones, verdict, verdict_of, verdict_with}
 use Rattle.turn_merge.specs.declared.verdict.Place.{Place}
@@ -10,14 +10,8 @@ use Rattle.turn_merge.specs.declared.verdict.Verdict.TheVariants.{Good, Contradi
 use Rattle.law_captured_disks.specs.Headline.{IsBadOrMissing}
 use Rattle.law_captured_disks.specs.lemmas.NoneGood.{no_goods}
 use Rattle.law_decoded_rings.specs.Verdicts.{IsGoodWith, IsGoodWithOrLost}
-use Rattle.flux_engine.specs.lemmas.Each.{Each, each-append, each-filter, each-left, each-map, each-right, each-unfilter}
+use Rattle.flux_engine.specs.lemmas.Each.{Each, each-filter, each-map, each-unfilter}
 use Rattle.flux_engine.specs.lemmas.GoodSectors.{Head, agreed_head, head_of, is_good_of, same_bytes}
-use Rattle.flux_engine.specs.Plans.{joined}
-use Rattle.flux_engine.specs.Captured.{IsUsed, joined_by}
-use Rattle.flux_engine.specs.declared.plan.Clocks.{Clocks}
-use Rattle.flux_engine.specs.declared.plan.Clocks.TheVariants.{Both, FollowingAlone}
-use Rattle.turn_merge.specs.declared.clock.Clock.{Clock}
-use Rattle.turn_merge.specs.declared.clock.Clock.TheVariants.{Following, Held}
 
 or_lost_of : (v : Verdict) (held : Option (List ℕ)) (bytes : List ℕ) → IsGoodWith v held bytes → IsGoodWithOrLost v held bytes
 or_lost_of (Good g b first) held bytes is = is

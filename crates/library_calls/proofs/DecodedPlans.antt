@@ -1,22 +1,35 @@
 -- Decoding a disk is reading it by the plan of one stream of each track, by the clock that follows the drive.
-use Rattle.std.specs.Prelude.{◌≡◌, ℕ, ◌+◌, ◌*◌, List, [], ◌∷◌, ◌++◌, length, Option, Some, None, Ok, Err, refl}
-use Rattle.std.proofs.Common.{ap, sym, subst, ◌∙◌, arith, inl, inr}
+use Rattle.std.specs.Prelude.{◌≡◌, ◌<◌, ℕ, zero, suc, ◌+◌, ◌*◌, List, [], ◌∷◌, ◌++◌, find, length, option_and_then, option_map, unwrap_or, Option, Some, None, Ok, Err, refl}
+use Rattle.std.specs.List.{range_with_len}
+use Rattle.std.proofs.Common.{ap, append-nil, sym, subst, ◌∙◌, arith, inl, inr}
+use Rattle.flux_base.specs.declared.track.TrackId.{TrackId}
+use Rattle.flux_base.specs.lemmas.Finding.{find-below}
+use Rattle.kryo_stream.specs.Stream.{first_fault, indexes, times}
+use Rattle.kryo_stream.specs.declared.fault.StreamFault.{StreamFault}
 use Rattle.sector_images.specs.Places.{tracks}
 use Rattle.sector_images.specs.declared.format.Format.{Format}
 use Rattle.sector_report.specs.declared.naming.Naming.TheVariants.{Unnamed}
 use Rattle.library_calls.specs.Answers.{CutOfDisk, DecodesDisk, IsOfBytesAtHand, IsTruncated, SaysOfDisk, WroteAll, engine_answer}
 use Rattle.flux_engine.specs.Answers.{IsTakenBehind}
+use Rattle.flux_engine.specs.Captured.{AreReadingsBy, IsUsed}
 use Rattle.flux_engine.specs.Cut.{CutInTrack}
-use Rattle.library_calls.specs.Disks.{AreParts, Decoded, IsDecoded, IsPartAt, decoded_count}
+use Rattle.library_calls.specs.Disks.{AreParts, Decoded, IsDecoded, IsPart, IsPartAt, Stop, decoded_count, has_fault, stop_at, stop_of}
 use Rattle.flux_engine.specs.Disks.{part_at, report_over}
 use Rattle.flux_engine.specs.PlanAnswers.{CutOfPlan, DecodesPlanned, IsOfBytesTaken, PlanAnswer, SaysOfPlanned, SaysTruncated, WrotePlanned}
-use Rattle.flux_engine.specs.Plans.{ArePlannedParts, IsFirstFault, IsPlanned, IsPlannedPart, Planned, StopsAt, decoding, planned_count, streams_in}
-use Rattle.flux_engine.specs.Tracks.{TrackPart, part_by}
+use Rattle.flux_engine.specs.Plans.{AreCaptures, ArePlannedParts, IsFirstFault, IsPlanned, IsPlannedPart, Planned, StopsAt, decoding, planned_count, streams_in}
+use Rattle.flux_engine.specs.Recordings.{cells_by, track_at}
+use Rattle.flux_engine.specs.Streams.{stream_at}
+use Rattle.flux_engine.specs.Tracks.{TrackPart, part_by, readings_in, track_notes}
+use Rattle.flux_engine.specs.declared.plan.Clocks.TheVariants.{FollowingAlone}
+use Rattle.flux_engine.specs.declared.plan.Rule.TheVariants.{Strict}
 use Rattle.flux_engine.specs.declared.fault.RefusedCapture.{RefusedCapture}
 use Rattle.flux_engine.specs.declared.fault.Stopped.TheVariants.{ReadFault, ImageFault, NotesFault, Refused}
 use Rattle.flux_engine.specs.declared.track_part.PartFault.{PartFault}
 use Rattle.flux_engine.specs.declared.track_part.PartFault.TheVariants.{ImageFault as PartImageFault, NotesFault as PartNotesFault}
-use Rattle.library_calls.proofs.OneStream.{one_stream, plain_stop, stop_same}
+use Rattle.turn_merge.specs.Readings.{NotedReading}
+use Rattle.turn_merge.specs.declared.clock.Clock.{Clock}
+use Rattle.turn_merge.specs.declared.clock.Clock.TheVariants.{Following, Held}
+use Rattle.library_calls.proofs.OneStream.{number-is, one_stream, plain_stop, stop_same}
 
 one_part : (format : Format) (x : List ℕ) (n : ℕ) (part : TrackPart) → IsPlannedPart decoding (part_by Unnamed) format (streams_in decoding x) n part → IsPartAt format x n part
 one_part format x n part p =
@@ -26,7 +39,7 @@ one_part format x n part p =
 one_parts : (format : Format) (x : List ℕ) (parts : List TrackPart) → ArePlannedParts decoding (part_by Unnamed) format (streams_in decoding x) parts → AreParts format x parts
 one_parts format x parts are = λ n low. one_part format x n (part_at parts n) (are n low)
 
-abbrev plain : Planned → Decoded
+abbrev pub plain : Planned → Decoded
 plain o = record { image = o.image; notes = o.notes; totals = o.totals; stop = plain_stop o.stop }
 
 same_count : (format : Format) (stop : Option RefusedCapture) → planned_count format stop ≡ decoded_count format (plain_stop stop)
@@ -46,6 +59,117 @@ is_decoded format x o p =
       many = p.many ∙ same_count format o.stop ∙ ap (decoded_count format) (sym stop);
       is = ap plain p.is ∙ same_of p.parts o.stop ∙ ap (report_over p.parts) (sym stop);
     }
+
+-- A track's part by its one stream is its part by the plan.
+module _ (format : Format) (x : List ℕ) (n : ℕ) (part : TrackPart) (p : IsPartAt format x n part) where
+  abbrev track : TrackId
+  track = track_at format n
+
+  -- its stream, by its number among all
+  at : (first_fault (stream_at x (n * 1 + 0)) ≡ None) × IsPart format track (times (stream_at x (n * 1 + 0))) (indexes (stream_at x (n * 1 + 0))) part
+  at =
+      subst (λ (k : ℕ). (first_fault (stream_at x k) ≡ None) × IsPart format track (times (stream_at x k)) (indexes (stream_at x k)) part) (sym (number-is n))
+      (p.no_fault, p.comes)
+
+  abbrev readings : List NotedReading
+  readings = readings_in 0 Following (times (stream_at x (n * 1 + 0))) (indexes (stream_at x (n * 1 + 0)))
+      (cells_by Following format track (times (stream_at x (n * 1 + 0))) (indexes (stream_at x (n * 1 + 0)))) at.1.found
+
+  by_clock : (clock : Clock) → IsUsed FollowingAlone clock
+      → AreReadingsBy Strict clock format track (times (stream_at x (n * 1 + 0))) (indexes (stream_at x (n * 1 + 0))) 0 readings
+  by_clock Following used = record { found = at.1.found; all = at.1.all; are = refl }
+  by_clock Held used = absurd used
+
+  capture : AreCaptures decoding format (streams_in decoding x) n (readings ∷ [])
+  capture zero low = record { by_clock = λ clock. readings; each = by_clock; are = refl }
+  capture (suc q) low = absurd (omega (arith, low))
+
+  no_fault : (q : ℕ) → q < 1 → first_fault (stream_at x (n * 1 + q)) ≡ None
+  no_fault zero low = at.0
+  no_fault (suc q) low = absurd (omega (arith, low))
+
+  pub planned_part : IsPlannedPart decoding (part_by Unnamed) format (streams_in decoding x) n part
+  planned_part = record {
+    no_fault = no_fault;
+    captures = readings ∷ [];
+    many = refl;
+    each = capture;
+    others = [];
+    others_are = ([], [], refl, record { by_clock = λ clock. []; each = λ clock used. record { found = []; all = refl; are = refl }; are = refl }, refl);
+    is = at.1.is ∙ ap (λ (rs : List NotedReading). part_by Unnamed format track (track_notes rs [] [])) (sym (append-nil readings));
+  }
+
+-- the stop is of one of the format's streams, and this is its fault
+abbrev StopsThere : Format → List ℕ → Stop → Type 0
+StopsThere format x s = (s.track < length (tracks format)) × (first_fault (stream_at x s.track) ≡ Some (s.block, s.fault))
+
+by_fault : (format : Format) (x : List ℕ) (n : ℕ) (s : Stop) (fault : Option (ℕ × StreamFault)) → n < length (tracks format) → first_fault (stream_at x n) ≡ fault
+    → option_map (λ (f : ℕ × StreamFault). let stop : Stop = record { track = n; block = f.0; fault = f.1 } in stop) fault ≡ Some s → StopsThere format x s
+by_fault format x n s None low is stop = absurd (cc)
+by_fault format x n s (Some f) low is stop =
+    let here : Stop = record { track = n; block = f.0; fault = f.1 } in
+    let same : here ≡ s = ap (λ (o : Option Stop). unwrap_or o here) stop in
+    subst (StopsThere format x) same (low, is)
+
+stop_there : (format : Format) (x : List ℕ) (s : Stop) (found : Option ℕ) → find (has_fault x) (range_with_len 0 (length (tracks format))) ≡ found
+    → option_and_then (stop_at x) found ≡ Some s → StopsThere format x s
+stop_there format x s None at is = absurd (cc)
+stop_there format x s (Some n) at is =
+    let below = find-below (has_fault x) 0 (length (tracks format)) n at in
+    by_fault format x n s (first_fault (stream_at x n)) (omega (arith, below)) refl is
+
+-- the stop of the plan, which names the one capture
+abbrev named_stop : Option Stop → Option RefusedCapture
+named_stop None = None
+named_stop (Some s) = Some (record { track = s.track; capture = 0; block = s.block; fault = s.fault })
+
+plain_again : (s : Option Stop) → plain_stop (named_stop s) ≡ s
+plain_again None = refl
+plain_again (Some s) = refl
+
+-- what an input decodes to is what it comes to by the plan
+module _ (format : Format) (x : List ℕ) (d : Decoded) (decoded : IsDecoded format x d) where
+  no_fault_at : (n q : ℕ) → n < length decoded.parts → q < 1 → first_fault (stream_at x (n * 1 + q)) ≡ None
+  no_fault_at n q low few = no_fault format x n (part_at decoded.parts n) (decoded.each n low) q few
+
+  stops_by : (s : Option Stop) → stop_of format x ≡ s → StopsAt decoding format (streams_in decoding x) (named_stop s)
+  unfolding stop_of
+  stops_by None is = λ n q low few.
+      let many : length decoded.parts ≡ length (tracks format) = decoded.many ∙ ap (decoded_count format) is in
+      no_fault_at n q (omega (arith, low, many)) few
+  stops_by (Some s) is =
+      let there = stop_there format x s (find (has_fault x) (range_with_len 0 (length (tracks format)))) refl is in
+      let many : length decoded.parts ≡ s.track = decoded.many ∙ ap (decoded_count format) is in
+      record {
+        low = there.0;
+        few = omega arith;
+        clean = λ n q few before.
+            elim before [
+              | inl earlier ↦ no_fault_at n q (omega (arith, earlier, many)) few
+              | inr same ↦ absurd (omega (arith, same.1))
+            ];
+        is = subst (λ (k : ℕ). first_fault (stream_at x k) ≡ Some (s.block, s.fault)) (sym (number-is s.track)) there.1;
+      }
+
+  count_by : (s : Option Stop) → decoded_count format s ≡ planned_count format (named_stop s)
+  count_by None = refl
+  count_by (Some s) = refl
+
+  pub is_planned : (o : Planned) × IsPlanned decoding (part_by Unnamed) format (streams_in decoding x) o × (d ≡ plain o)
+  is_planned =
+      let stop : Option RefusedCapture = named_stop (stop_of format x) in
+      let again : report_over decoded.parts (plain_stop stop) ≡ report_over decoded.parts (stop_of format x) =
+      ap (report_over decoded.parts) (plain_again (stop_of format x)) in (
+        report_over decoded.parts stop,
+        record {
+          parts = decoded.parts;
+          each = λ n low. planned_part format x n (part_at decoded.parts n) (decoded.each n low);
+          stops = stops_by (stop_of format x) refl;
+          many = decoded.many ∙ count_by (stop_of format x);
+          is = refl;
+        },
+        decoded.is ∙ sym again ∙ sym (same_of decoded.parts stop),
+      )
 
 module _ (format : Format) (x later : List ℕ) (image image' notes notes' : Option (List ℕ)) where
   wrote_all : (o : Planned) → WrotePlanned decoding (part_by Unnamed) format x image image' notes notes' o → WroteAll format x image image' notes notes' (plain o)

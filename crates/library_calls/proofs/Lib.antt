@@ -12,7 +12,4 @@ pub mod Growing
 pub mod ReportLines
 pub mod SetCauses
 pub mod SetOfOne
-pub mod StrictReadings
-pub mod Stops
-pub mod CapturedSectors
 pub mod CapturedDisks

@@ -1,5 +1,5 @@
 -- A stream that is read by the one clock.
-use Rattle.std.specs.Prelude.{ℕ, ◌-◌, List, Option, Ok, Err, Bool}
+use Rattle.std.specs.Prelude.{ℕ, List, Option, Ok, Err, Bool}
 use Rattle.std.proofs.Common.{sym, subst}
 use Rattle.flux_base.specs.declared.track.TrackId.{TrackId}
 use Rattle.sector_images.specs.declared.format.Format.{Format}

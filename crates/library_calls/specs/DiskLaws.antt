@@ -1,5 +1,5 @@
 -- What a decoded disk says of each of its sectors, in its image and in its lines.
-use Rattle.std.specs.Prelude.{◌≡◌, ◌≤◌, ◌<◌, ℕ, ◌+◌, ◌-◌, false, List, length, drop, replicate}
+use Rattle.std.specs.Prelude.{◌≡◌, ◌≤◌, ◌<◌, ℕ, ◌+◌, false, List, length, drop, replicate}
 use Rattle.std.specs.Prelude.{None}
 use Rattle.flux_base.specs.declared.track.TrackId.{TrackId}
 use Rattle.frame_law.specs.Readings.{AreReadings}

@@ -1,7 +1,6 @@
 -- What a captured disk decodes to.
 use Rattle.std.specs.Prelude.{◌≡◌, ◌⊎◌, ℕ, List, drop, replicate, None}
 use Rattle.sector_images.specs.Formats.{row}
-use Rattle.sector_images.specs.Places.{tracks}
 use Rattle.sector_images.specs.declared.format.Format.{Format}
 use Rattle.sector_report.specs.Lines.{sector_text}
 use Rattle.turn_merge.specs.declared.verdict.Place.{Place}

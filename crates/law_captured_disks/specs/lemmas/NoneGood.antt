@@ -1,5 +1,5 @@
 -- Where the verdict over some readings is not good.
-use Rattle.std.specs.Prelude.{◌≡◌, ℕ, List, [], ◌∷◌, length, Option, Some, None, if◌then◌else◌}
+use Rattle.std.specs.Prelude.{◌≡◌, ℕ, List, [], ◌∷◌, length, Option, Some, None}
 use Rattle.std.specs.Prelude.{refl}
 use Rattle.turn_merge.specs.Readings.{NotedReading, bytes_of, first_other, verdict_of, verdict_with}
 use Rattle.turn_merge.specs.declared.verdict.Place.{Place}
