@@ -1,11 +1,8 @@
 -- Decoding a disk is reading it by the plan of one stream of each track, by the clock that follows the drive.
-use Rattle.std.specs.Prelude.{◌≡◌, ◌<◌, ℕ, zero, suc, ◌+◌, ◌*◌, List, [], ◌∷◌, ◌++◌, find, length, option_and_then, option_map, unwrap_or, Option, Some, None, Ok, Err, refl}
-use Rattle.std.specs.List.{range_with_len}
+use Rattle.std.specs.Prelude.{◌≡◌, ◌<◌, ℕ, zero, suc, ◌+◌, ◌*◌, List, [], ◌∷◌, ◌++◌, length, Option, Some, None, Ok, Err, refl}
 use Rattle.std.proofs.Common.{ap, append-nil, sym, subst, ◌∙◌, arith, inl, inr}
 use Rattle.flux_base.specs.declared.track.TrackId.{TrackId}
-use Rattle.flux_base.specs.lemmas.Finding.{find-below}
 use Rattle.kryo_stream.specs.Stream.{first_fault, indexes, times}
-use Rattle.kryo_stream.specs.declared.fault.StreamFault.{StreamFault}
 use Rattle.sector_images.specs.Places.{tracks}
 use Rattle.sector_images.specs.declared.format.Format.{Format}
 use Rattle.sector_report.specs.declared.naming.Naming.TheVariants.{Unnamed}
@@ -13,7 +10,7 @@ use Rattle.library_calls.specs.Answers.{CutOfDisk, DecodesDisk, IsOfBytesAtHand,
 use Rattle.flux_engine.specs.Answers.{IsTakenBehind}
 use Rattle.flux_engine.specs.Captured.{AreReadingsBy, IsUsed}
 use Rattle.flux_engine.specs.Cut.{CutInTrack}
-use Rattle.library_calls.specs.Disks.{AreParts, Decoded, IsDecoded, IsPart, IsPartAt, Stop, decoded_count, has_fault, stop_at, stop_of}
+use Rattle.library_calls.specs.Disks.{AreParts, Decoded, IsDecoded, IsPart, IsPartAt, Stop, decoded_count, stop_of}
 use Rattle.flux_engine.specs.Disks.{part_at, report_over}
 use Rattle.flux_engine.specs.PlanAnswers.{CutOfPlan, DecodesPlanned, IsOfBytesTaken, PlanAnswer, SaysOfPlanned, SaysTruncated, WrotePlanned}
 use Rattle.flux_engine.specs.Plans.{AreCaptures, ArePlannedParts, IsFirstFault, IsPlanned, IsPlannedPart, Planned, StopsAt, decoding, planned_count, streams_in}
@@ -30,6 +27,7 @@ use Rattle.turn_merge.specs.Readings.{NotedReading}
 use Rattle.turn_merge.specs.declared.clock.Clock.{Clock}
 use Rattle.turn_merge.specs.declared.clock.Clock.TheVariants.{Following, Held}
 use Rattle.library_calls.proofs.OneStream.{number-is, one_stream, plain_stop, stop_same}
+use Rattle.library_calls.proofs.Stops.{stops_there}
 
 one_part : (format : Format) (x : List ℕ) (n : ℕ) (part : TrackPart) → IsPlannedPart decoding (part_by Unnamed) format (streams_in decoding x) n part → IsPartAt format x n part
 one_part format x n part p =
@@ -42,7 +40,7 @@ one_parts format x parts are = λ n low. one_part format x n (part_at parts n) (
 abbrev pub plain : Planned → Decoded
 plain o = record { image = o.image; notes = o.notes; totals = o.totals; stop = plain_stop o.stop }
 
-same_count : (format : Format) (stop : Option RefusedCapture) → planned_count format stop ≡ decoded_count format (plain_stop stop)
+pub same_count : (format : Format) (stop : Option RefusedCapture) → planned_count format stop ≡ decoded_count format (plain_stop stop)
 same_count format None = refl
 same_count format (Some s) = refl
 
@@ -99,25 +97,6 @@ module _ (format : Format) (x : List ℕ) (n : ℕ) (part : TrackPart) (p : IsPa
     is = at.1.is ∙ ap (λ (rs : List NotedReading). part_by Unnamed format track (track_notes rs [] [])) (sym (append-nil readings));
   }
 
--- the stop is of one of the format's streams, and this is its fault
-abbrev StopsThere : Format → List ℕ → Stop → Type 0
-StopsThere format x s = (s.track < length (tracks format)) × (first_fault (stream_at x s.track) ≡ Some (s.block, s.fault))
-
-by_fault : (format : Format) (x : List ℕ) (n : ℕ) (s : Stop) (fault : Option (ℕ × StreamFault)) → n < length (tracks format) → first_fault (stream_at x n) ≡ fault
-    → option_map (λ (f : ℕ × StreamFault). let stop : Stop = record { track = n; block = f.0; fault = f.1 } in stop) fault ≡ Some s → StopsThere format x s
-by_fault format x n s None low is stop = absurd (cc)
-by_fault format x n s (Some f) low is stop =
-    let here : Stop = record { track = n; block = f.0; fault = f.1 } in
-    let same : here ≡ s = ap (λ (o : Option Stop). unwrap_or o here) stop in
-    subst (StopsThere format x) same (low, is)
-
-stop_there : (format : Format) (x : List ℕ) (s : Stop) (found : Option ℕ) → find (has_fault x) (range_with_len 0 (length (tracks format))) ≡ found
-    → option_and_then (stop_at x) found ≡ Some s → StopsThere format x s
-stop_there format x s None at is = absurd (cc)
-stop_there format x s (Some n) at is =
-    let below = find-below (has_fault x) 0 (length (tracks format)) n at in
-    by_fault format x n s (first_fault (stream_at x n)) (omega (arith, below)) refl is
-
 -- the stop of the plan, which names the one capture
 abbrev named_stop : Option Stop → Option RefusedCapture
 named_stop None = None
@@ -133,12 +112,11 @@ module _ (format : Format) (x : List ℕ) (d : Decoded) (decoded : IsDecoded for
   no_fault_at n q low few = no_fault format x n (part_at decoded.parts n) (decoded.each n low) q few
 
   stops_by : (s : Option Stop) → stop_of format x ≡ s → StopsAt decoding format (streams_in decoding x) (named_stop s)
-  unfolding stop_of
   stops_by None is = λ n q low few.
       let many : length decoded.parts ≡ length (tracks format) = decoded.many ∙ ap (decoded_count format) is in
       no_fault_at n q (omega (arith, low, many)) few
   stops_by (Some s) is =
-      let there = stop_there format x s (find (has_fault x) (range_with_len 0 (length (tracks format)))) refl is in
+      let there = stops_there format x s is in
       let many : length decoded.parts ≡ s.track = decoded.many ∙ ap (decoded_count format) is in
       record {
         low = there.0;

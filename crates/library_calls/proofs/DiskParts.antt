@@ -1,45 +1,29 @@
 -- The parts of a decoded disk in its image and in its lines.
-use Rattle.std.specs.Prelude.{◌≡◌, ◌≤◌, ◌<◌, ℕ, zero, suc, ◌+◌, ◌*◌, List, [], ◌∷◌, ◌++◌, length, take, drop, find, get_or, sum_by, Option, Some, None, option_and_then, option_map, refl}
-use Rattle.std.specs.List.{range_with_len}
-use Rattle.std.proofs.Common.{ap, sym, subst, ◌∙◌, arith, length-append, length-drop}
+use Rattle.std.specs.Prelude.{◌≡◌, ◌≤◌, ◌<◌, ℕ, zero, suc, ◌+◌, ◌*◌, List, [], ◌∷◌, ◌++◌, length, take, drop, get_or, sum_by, Option, Some, None, refl}
+use Rattle.std.proofs.Common.{ap, sym, subst, ◌∙◌, arith, length-append}
 use Rattle.std.proofs.Math.Seq.{drop-append_seam, take-append_seam, take-length, take-suc}
-use Rattle.std.proofs.lemmas.List.{drop-append-le, drop-drop, take-append-drop, take-append-le}
+use Rattle.std.proofs.lemmas.List.{take-append-drop}
 use Rattle.std.proofs.lemmas.List.Concat.{flat_map-append}
 use Rattle.std.proofs.lemmas.List.Sums.{sum_by-append}
 use Rattle.std.proofs.lemmas.Option.{slice_get-get_or, unwrap_or-slice_get}
 use Rattle.flux_base.specs.declared.track.TrackId.{TrackId}
-use Rattle.kryo_stream.specs.Stream.{first_fault, times, indexes}
-use Rattle.kryo_stream.specs.declared.fault.StreamFault.{StreamFault}
+use Rattle.kryo_stream.specs.Stream.{times, indexes}
 use Rattle.sector_images.specs.Formats.{row}
 use Rattle.sector_images.specs.Places.{TracksFillImages, TracksJoin, bytes_of, place_of, sector_in, tracks}
 use Rattle.sector_images.specs.declared.format.Format.{Format}
 use Rattle.library_calls.specs.DiskLaws.{PartsFitImages, PartsStandAtTheirPlaces, WholeDisksFillImages}
 use Rattle.flux_engine.specs.DiskLaws.{StandsInImage}
-use Rattle.library_calls.specs.Disks.{Stop, AreParts, Decoded, IsDecoded, decoded_count, stop_at, stop_of, has_fault, IsPart}
+use Rattle.library_calls.specs.Disks.{Stop, AreParts, Decoded, IsDecoded, decoded_count, stop_of, IsPart}
 use Rattle.flux_engine.specs.Disks.{images, part_at}
 use Rattle.disk_recordings.specs.Laws.{TracksAreRead}
 use Rattle.disk_recordings.specs.Members.{header_at, sector_at}
 use Rattle.flux_engine.specs.Recordings.{cells_of, sectors_of, track_at}
 use Rattle.flux_engine.specs.Streams.{stream_at}
-use Rattle.flux_engine.specs.Tracks.{TrackPart, image_of, lines_by, readings_of}
+use Rattle.flux_engine.specs.Tracks.{TrackPart, image_of}
 use Rattle.flux_engine.specs.lemmas.PartLaws.{image_split, no_part}
-use Rattle.flux_base.specs.lemmas.Finding.{find-below}
-use Rattle.sector_report.specs.declared.naming.Naming.TheVariants.{Unnamed}
-use Rattle.turn_merge.specs.Readings.{NotedReading}
 use Rattle.turn_merge.specs.declared.clock.Clock.TheVariants.{Following}
 use Rattle.flux_engine.specs.lemmas.GoodSectors.{lengths, strict_good}
-use Rattle.library_calls.proofs.Outcomes.{stop_track}
-
--- a part of what stands after a list, and before another, is that part of it
-pub piece_within : (before part rest : List ℕ) (place k size : ℕ) → length before ≡ place → k + size ≤ length part
-    → take size (drop (place + k) (before ++ (part ++ rest))) ≡ take size (drop k part)
-piece_within before part rest place k size at within =
-    let whole : List ℕ = before ++ (part ++ rest) in
-    let gone : drop place whole ≡ part ++ rest = ap (λ (n : ℕ). drop n whole) (sym at) ∙ drop-append_seam before (part ++ rest) in
-    let on : drop (place + k) whole ≡ drop k (part ++ rest) = sym (drop-drop k place whole) ∙ ap (drop k) gone in
-    let cut : drop k (part ++ rest) ≡ drop k part ++ rest = drop-append-le k part rest (omega (arith, within)) in
-    let left = length-drop k part in
-    ap (take size) (on ∙ cut) ∙ take-append-le size (drop k part) rest (omega (arith, left, within))
+use Rattle.library_calls.proofs.Stops.{stops_there}
 
 -- all that stands after a list, and before another
 whole_piece : (before part rest : List ℕ) (place size : ℕ) → length before ≡ place → length part ≡ size
@@ -64,7 +48,7 @@ part_size read format track times' indexes' part is =
     (sectors_of format track) refl (sector_in format track) 0 count
     ∙ turned
 
-abbrev pub first_track : TrackId
+abbrev first_track : TrackId
 first_track = record { cylinder = 0; head = 0 }
 
 -- a list of parts up to one, that one and the others
@@ -87,20 +71,9 @@ tracks_more format n low =
     ∙ sum_by-append (bytes_of format) (take n ts) (get_or ts n first_track ∷ [])
     ∙ ap (λ (m : ℕ). sum_by (bytes_of format) (take n ts) + m) (one ∙ ap (bytes_of format) here)
 
--- the readings of a part, and its lines by them
-module _ (format : Format) (x : List ℕ) (ps : List TrackPart) (are : AreParts format x ps) where
-  abbrev pub part_readings : (n : ℕ) → n < length ps → List NotedReading
-  part_readings n low =
-      let comes = (are n low).comes in
-      readings_of (times (stream_at x n)) (indexes (stream_at x n)) (cells_of format (track_at format n) (times (stream_at x n)) (indexes (stream_at x n))) comes.found
-
-  pub part_lines : (n : ℕ) (low : n < length ps)
-      → (part_at ps n).lines ≡ lines_by Unnamed (track_at format n) (sectors_of format (track_at format n)) (part_readings n low)
-  part_lines n low = ap (λ (p : TrackPart). p.lines) (are n low).comes.is
-
 -- the parts of the first tracks
 module _ (read : TracksAreRead) (format : Format) (x : List ℕ) (ps : List TrackPart) (are : AreParts format x ps) (few : length ps ≤ length (tracks format)) where
-  pub size_at : (n : ℕ) → n < length ps → length (part_at ps n).image ≡ bytes_of format (track_at format n)
+  size_at : (n : ℕ) → n < length ps → length (part_at ps n).image ≡ bytes_of format (track_at format n)
   size_at n low = part_size read format (track_at format n) (times (stream_at x n)) (indexes (stream_at x n)) (part_at ps n) (are n low).comes
 
   size_before : (n : ℕ) → n ≤ length ps → length (images (take n ps)) ≡ sum_by (bytes_of format) (take n (tracks format))
@@ -114,7 +87,7 @@ module _ (read : TracksAreRead) (format : Format) (x : List ℕ) (ps : List Trac
       omega (arith, here, more, after, before)
 
   -- what stands before a part is as long as the track's place says
-  pub place_is : TracksJoin → (n : ℕ) → n < length ps → length (images (take n ps)) ≡ place_of format (track_at format n)
+  place_is : TracksJoin → (n : ℕ) → n < length ps → length (images (take n ps)) ≡ place_of format (track_at format n)
   place_is joined n low =
       let known : n < length (tracks format) = omega (arith, low, few) in
       let here = slice_get-get_or (tracks format) n first_track known in
@@ -148,25 +121,9 @@ parts_fit_images read filled format x ps are few =
     omega (arith, mine, before, all, both, filled format)
 
 -- a stop is at one of the format's streams
-stop_is_at : (n : ℕ) (s : Stop) (fault : Option (ℕ × StreamFault))
-    → option_map (λ (f : ℕ × StreamFault). let stop : Stop = record { track = n; block = f.0; fault = f.1 } in stop) fault ≡ Some s → n ≡ s.track
-stop_is_at n s None is = absurd (cc)
-stop_is_at n s (Some f) is = ap (λ (o : Option Stop). stop_track o) is
-
-stop_below : (x : List ℕ) (s : Stop) (count : ℕ) (found : Option ℕ) → find (has_fault x) (range_with_len 0 count) ≡ found
-    → option_and_then (stop_at x) found ≡ Some s → s.track < count
-stop_below x s count None at is = absurd (cc)
-stop_below x s count (Some n) at is =
-    let below : n < 0 + count = find-below (has_fault x) 0 count n at in
-    let same : n ≡ s.track = stop_is_at n s (first_fault (stream_at x n)) is in
-    omega (arith, below, same)
-
 few_decoded : (format : Format) (x : List ℕ) (stop : Option Stop) → stop_of format x ≡ stop → decoded_count format stop ≤ length (tracks format)
-unfolding stop_of
 few_decoded format x None is = omega arith
-few_decoded format x (Some s) is =
-    let below = stop_below x s (length (tracks format)) (find (has_fault x) (range_with_len 0 (length (tracks format)))) refl is in
-    omega (arith, below)
+few_decoded format x (Some s) is = (let below = (stops_there format x s is).0 in omega (arith, below))
 
 -- an outcome's parts
 module _ (format : Format) (x : List ℕ) (o : Decoded) (is : IsDecoded format x o) where

@@ -1,158 +1,167 @@
--- The sectors of a decoded disk.
-use Rattle.std.specs.Prelude.{◌≡◌, ◌<◌, ℕ, suc, ◌+◌, ◌-◌, ◌*◌, false, List, length, take, drop, replicate, unwrap_or, Option, refl}
+-- What a decoded disk says of its sectors: what it says as one that is read by the plan of one stream.
+use Rattle.std.specs.Prelude.{◌≡◌, ◌≤◌, ◌<◌, ℕ, zero, suc, ◌+◌, ◌*◌, false, List, drop, replicate, unwrap_or, Option, Some, None, refl}
 use Rattle.std.proofs.Common.{ap, sym, subst, ◌∙◌, arith}
-use Rattle.flux_base.specs.declared.track.TrackId.{TrackId}
+use Rattle.disk_recordings.specs.Laws.{TracksAreRead}
+use Rattle.disk_recordings.specs.Members.{sector_at}
 use Rattle.kryo_stream.specs.Stream.{times, indexes}
-use Rattle.sector_images.specs.Formats.{row, slot}
-use Rattle.sector_images.specs.Places.{SectorsFillTracks, TracksJoin, place_of, sector_in, sector_place}
+use Rattle.sector_images.specs.Formats.{row}
 use Rattle.sector_images.specs.declared.format.Format.{Format}
-use Rattle.sector_report.specs.LineLaws.{SectorsHaveOneLine}
-use Rattle.sector_report.specs.Lines.{sector_text}
+use Rattle.sector_report.specs.LineLaws.{line_ends}
+use Rattle.sector_report.specs.Lines.{named_text, sector_text}
+use Rattle.sector_report.specs.declared.naming.Naming.TheVariants.{Unnamed}
 use Rattle.turn_merge.specs.Readings.{NotedReading, verdict}
+use Rattle.turn_merge.specs.declared.clock.Clock.{Clock}
+use Rattle.turn_merge.specs.declared.clock.Clock.TheVariants.{Following, Held}
 use Rattle.turn_merge.specs.declared.verdict.Place.{Place}
 use Rattle.turn_merge.specs.declared.verdict.Verdict.{Verdict}
 use Rattle.turn_merge.specs.declared.verdict.Verdict.TheVariants.{Good}
-use Rattle.library_calls.specs.DiskLaws.{EachHasOneVerdict, GoodIsRightOnDisks, HasOneVerdict, HasVerdict, IsDecodedSector, IsRightlyGoodOnDisk, LinesNameVerdicts, OthersAreZeros}
-use Rattle.flux_engine.specs.DiskLaws.{HasLine, bytes_at, cells_at, line_number}
-use Rattle.library_calls.specs.Disks.{Decoded, decoded_count, stop_of, IsPart}
-use Rattle.flux_engine.specs.Disks.{images, last_line, part_at, totals_over}
-use Rattle.library_calls.specs.Laws.{IsRightlyGood}
-use Rattle.disk_recordings.specs.Laws.{TracksAreRead}
-use Rattle.disk_recordings.specs.Members.{header_at, sector_at}
-use Rattle.flux_engine.specs.Recordings.{sectors_of, track_at}
+use Rattle.flux_engine.specs.Captured.{IsUsed}
+use Rattle.flux_engine.specs.DiskLaws.{HasLine, bytes_at, cells_at, line_number, sectors_before, total_lines}
+use Rattle.flux_engine.specs.PlanLaws.{GoodIsRightInPlans}
+use Rattle.flux_engine.specs.Plans.{Planned, decoding, joined, planned_count, streams_in}
+use Rattle.flux_engine.specs.Recordings.{cells_by, cells_of, track_at}
 use Rattle.flux_engine.specs.Streams.{stream_at}
-use Rattle.flux_engine.specs.Tracks.{Found, TrackPart, image_bytes, image_of, is_good, part_of, readings_of}
-use Rattle.library_calls.proofs.DiskParts.{few_parts, image_is, part_lines, part_readings, piece_within, place_is, size_at, stop_is}
-use Rattle.turn_merge.specs.declared.clock.Clock.TheVariants.{Following}
-use Rattle.sector_report.specs.declared.naming.Naming.TheVariants.{Unnamed}
-use Rattle.flux_engine.specs.lemmas.GoodSectors.{in_image, strict_good}
-use Rattle.flux_engine.specs.lemmas.LineNumbers.{sector-line}
+use Rattle.flux_engine.specs.Tracks.{Found, is_good, place_at, place_in, readings_of}
+use Rattle.flux_engine.specs.declared.fault.RefusedCapture.{RefusedCapture}
+use Rattle.flux_engine.specs.declared.plan.Clocks.TheVariants.{FollowingAlone}
 use Rattle.flux_engine.specs.lemmas.NoneAgreed.{none_agreed}
-use Rattle.flux_base.specs.lemmas.Sizes.{one_more}
-use Rattle.flux_engine.specs.lemmas.PartLaws.{image_split}
-use Rattle.library_calls.proofs.Outcomes.{good_is_right, one_found, one_part}
+use Rattle.law_captured_plans.specs.Said.{InputsAreShort, IsSaid, LinesTellInPlans, PlannedReportsHaveNoOtherLines, SectorsAreSaid}
+use Rattle.library_calls.specs.DiskLaws.{EachHasOneVerdict, GoodIsRightOnDisks, HasOneVerdict, HasVerdict, IsDecodedSector, IsRightlyGoodOnDisk, LinesNameVerdicts, LinesTellVerdicts, OthersAreZeros, ReportsHaveNoOtherLines}
+use Rattle.library_calls.specs.Disks.{Decoded, decoded_count}
+use Rattle.library_calls.proofs.DecodedPlans.{is_planned, plain, same_count}
+use Rattle.library_calls.proofs.OneStream.{number-is, one_list, plain_stop}
 
-module _ (read : TracksAreRead) (format : Format) (x : List ℕ) (o : Decoded) (n sector : ℕ) (s : IsDecodedSector format x o n sector) where
-  abbrev track : TrackId
-  track = track_at format n
+-- all that can be read of a track is one list
+module _ (read : TracksAreRead) (format : Format) (x : List ℕ) (n sector : ℕ) where
+  pub one_verdict : (a b : Verdict) → HasVerdict format x n sector a → HasVerdict format x n sector b → a ≡ b
+  one_verdict a b p q =
+      sym p.is
+      ∙ ap (λ (found : List Found). verdict (readings_of (times (stream_at x n)) (indexes (stream_at x n)) (cells_at format x n) found) sector)
+      (read.one format (track_at format n) (cells_at format x n) 0 p.found q.found p.all q.all)
+      ∙ q.is
 
-  abbrev times_there : List ℕ
-  times_there = times (stream_at x n)
+-- the verdict over the readings of its one capture
+verdict_of : (format : Format) (x : List ℕ) (o : Planned) (n sector number : ℕ) (said : IsSaid decoding format (streams_in decoding x) o n sector number)
+    → HasVerdict format x n sector (verdict (joined said.captures) sector)
+verdict_of format x o n sector number said =
+    let at = one_list format x n said.captures said.many said.each in
+    record { found = at.found; all = at.all; is = ap (λ (readings : List NotedReading). verdict readings sector) (sym at.are) }
 
-  abbrev indexes_there : List ℕ
-  indexes_there = indexes (stream_at x n)
+-- the tracks that are decoded are those that are read
+count_is : (format : Format) (d : Decoded) (o : Planned) → d ≡ plain o → decoded_count format d.stop ≡ planned_count format o.stop
+count_is format d o same = ap (λ (e : Decoded). decoded_count format e.stop) same ∙ sym (same_count format o.stop)
 
-  abbrev parts : List TrackPart
-  parts = s.outcome.parts
+module _ (read : TracksAreRead) (said : SectorsAreSaid) (format : Format) (x : List ℕ) (d : Decoded) (n sector : ℕ) (s : IsDecodedSector format x d n sector) where
+  abbrev o : Planned
+  o = (is_planned format x d s.outcome).0
 
-  decoded : n < length parts
-  decoded =
-      let same = ap (decoded_count format) (stop_is format x o s.outcome) in
-      omega (arith, same, s.outcome.many, s.track_decoded)
+  same : d ≡ plain o
+  same = (is_planned format x d s.outcome).2
+
+  here : IsSaid decoding format (streams_in decoding x) o n sector (line_number format n sector)
+  here =
+      let count = count_is format d o same in
+      said decoding format (streams_in decoding x) o (is_planned format x d s.outcome).1 n sector (omega (arith, s.track_decoded, count)) s.sector_known
+
+  abbrev readings : List NotedReading
+  readings = joined here.captures
+
+  mine : HasVerdict format x n sector (verdict readings sector)
+  mine = verdict_of format x o n sector (line_number format n sector) here
+
+  has_one : HasOneVerdict format x n sector
+  has_one = record { outcome = verdict readings sector; has = mine; only = λ other has. one_verdict read format x n sector other (verdict readings sector) has mine }
 
   module _ (outcome : Verdict) (h : HasVerdict format x n sector outcome) where
-    abbrev readings : List NotedReading
-    readings = readings_of times_there indexes_there (cells_at format x n) h.found
+    is : verdict readings sector ≡ outcome
+    is = one_verdict read format x n sector (verdict readings sector) outcome mine h
 
-    abbrev my_part : TrackPart
-    my_part = part_of format track readings
+    has_line : HasLine d.notes (sector_text (track_at format n) sector outcome) (line_number format n sector)
+    has_line =
+        subst (λ (e : Decoded). HasLine e.notes (sector_text (track_at format n) sector outcome) (line_number format n sector)) (sym same)
+        (subst (λ (v : Verdict). HasLine o.notes (named_text Unnamed (track_at format n) sector v) (line_number format n sector)) is here.line)
 
-    abbrev is_part : IsPart format track times_there indexes_there my_part
-    is_part = record { found = h.found; all = h.all; is = refl }
+    zeros : is_good outcome ≡ false → bytes_at format d.image (track_at format n) sector ≡ replicate (row format).sector_size 0
+    zeros other =
+        ap (λ (e : Decoded). bytes_at format e.image (track_at format n) sector) same ∙ here.held
+        ∙ ap (λ (held : Option (List ℕ)). unwrap_or held (replicate (row format).sector_size 0)) (none_agreed readings sector outcome is other)
 
-    same_part : part_at parts n ≡ my_part
-    same_part = one_part read format track times_there indexes_there (part_at parts n) my_part (s.outcome.each n decoded).comes is_part
+  -- a place of its one capture, by the one clock
+  module _ (first : Place) (bytes : List ℕ) where
+    abbrev IsThere : (k : ℕ) → ℕ → Clock → (place : ℕ) → Type 0
+    IsThere k q clock place =
+        (first ≡ place_in q clock (times (stream_at x k)) (indexes (stream_at x k)) (cells_by clock format (track_at format n) (times (stream_at x k)) (indexes (stream_at x k))) place)
+        × sector_at format (track_at format n) (drop place (cells_by clock format (track_at format n) (times (stream_at x k)) (indexes (stream_at x k)))) sector bytes
 
-    -- its bytes in the whole image are its piece of the track's part
-    in_disk : SectorsFillTracks → TracksJoin
-        → bytes_at format o.image track sector ≡ take (row format).sector_size (drop ((row format).sector_size * slot format sector) my_part.image)
-    unfolding sector_place
-    in_disk fills joined =
-        let size : ℕ = (row format).sector_size in
-        let at : ℕ = size * slot format sector in
-        let few = few_parts format x o s.outcome in
-        let fill = fills format track sector s.sector_known in
-        let many = size_at read format x parts s.outcome.each few n decoded in
-        let inside = one_more size (slot format sector) (sectors_of format track).count fill.0 in
-        ap (λ (xs : List ℕ). take {A = ℕ} size (drop (place_of format track + at) xs)) (image_is format x o s.outcome ∙ image_split parts n decoded)
-        ∙ piece_within (images (take n parts)) (part_at parts n).image (images (drop (suc n) parts)) (place_of format track) at size
-        (place_is read format x parts s.outcome.each few joined n decoded) (omega (arith, many, inside))
-        ∙ ap (λ (p : TrackPart). take {A = ℕ} size (drop at p.image)) same_part
+    abbrev StandsThere : Type 0
+    StandsThere =
+        sector_at format (track_at format n) (drop first.cell (cells_at format x n)) sector bytes
+        × (first ≡ place_at (times (stream_at x n)) (indexes (stream_at x n)) (cells_at format x n) first.cell)
 
-    -- its piece of the track's part is its data, or zeros
-    piece_is : SectorsFillTracks
-        → take (row format).sector_size (drop ((row format).sector_size * slot format sector) my_part.image) ≡ image_bytes (sectors_of format track) readings sector
-    unfolding image_of
-    piece_is fills =
-        let fill = fills format track sector s.sector_known in
-        in_image (sector_at format track) (row format).sector_size (read.told format track).content_size
-        0 Following times_there indexes_there (cells_at format x n) h.found
-        (strict_good (header_at format track) (sector_at format track) (read.all format track) (cells_at format x n) h.found h.all)
-        (sectors_of format track) refl (sector_in format track) (slot format sector) fill.0
-        ∙ ap (image_bytes (sectors_of format track) readings) fill.1
+    named_there : (q : ℕ) (clock : Clock) (place : ℕ) → q < 1 → IsUsed FollowingAlone clock → IsThere (n * 1 + q) q clock place → StandsThere
+    named_there zero Following place low used at =
+        let there : IsThere n 0 Following place = subst (λ (k : ℕ). IsThere k 0 Following place) (number-is n) at in
+        let cell : first.cell ≡ place = ap (λ (p : Place). p.cell) there.0 in (
+          subst (λ (c : ℕ). sector_at format (track_at format n) (drop c (cells_at format x n)) sector bytes) (sym cell) there.1,
+          subst (λ (c : ℕ). first ≡ place_at (times (stream_at x n)) (indexes (stream_at x n)) (cells_at format x n) c) (sym cell) there.0,
+        )
+    named_there zero Held place low used at = absurd used
+    named_there (suc q) clock place low used at = absurd (omega (arith, low))
 
-    zeros : SectorsFillTracks → TracksJoin → is_good outcome ≡ false
-        → bytes_at format o.image track sector ≡ replicate (row format).sector_size 0
-    zeros fills joined other =
-        in_disk fills joined ∙ piece_is fills
-        ∙ ap (λ (d : Option (List ℕ)). unwrap_or d (replicate (row format).sector_size 0)) (none_agreed readings sector outcome h.is other)
-
-    -- another list of all readings is the same one
-    only : (other : Verdict) → HasVerdict format x n sector other → other ≡ outcome
-    only other h' =
-        let that : IsPart format track times_there indexes_there (part_of format track (readings_of times_there indexes_there (cells_at format x n) h'.found)) =
-        record { found = h'.found; all = h'.all; is = refl } in
-        let same : h'.found ≡ h.found =
-        one_found read format track times_there indexes_there (part_of format track (readings_of times_there indexes_there (cells_at format x n) h'.found)) my_part that is_part in
-        sym h'.is
-        ∙ ap (λ (found : List Found). verdict (readings_of times_there indexes_there (cells_at format x n) found) sector) same
-        ∙ h.is
-
-    has_line : SectorsHaveOneLine → HasLine o.notes (sector_text track sector outcome) (line_number format n sector)
-    has_line one =
-        let comes = (s.outcome.each n decoded).comes in
-        let mine : List NotedReading = part_readings format x parts s.outcome.each n decoded in
-        let own : HasVerdict format x n sector (verdict mine sector) = record { found = comes.found; all = comes.all; is = refl } in
-        subst (λ (v : Verdict). HasLine o.notes (sector_text track sector v) (line_number format n sector)) (only (verdict mine sector) own)
-        (subst (λ (d : Decoded). HasLine d.notes (sector_text track sector (verdict mine sector)) (line_number format n sector)) (sym s.outcome.is)
-        (sector-line one format parts (few_parts format x o s.outcome) Unnamed (part_readings format x parts s.outcome.each) (part_lines format x parts s.outcome.each)
-        (last_line (totals_over parts) (stop_of format x)) n decoded sector s.sector_known))
-
-  good : SectorsFillTracks → TracksJoin → (good bad : ℕ) (first : Place) → (h : HasVerdict format x n sector (Good good bad first))
-      → IsRightlyGoodOnDisk format x o.image n sector first
-  unfolding sector_place
-  good fills joined goods bads first h =
-      let outcome = Good goods bads first in
-      let size : ℕ = (row format).sector_size in
-      let part = my_part outcome h in
-      let r : IsRightlyGood format track times_there indexes_there part sector first =
-      good_is_right read fills format track times_there indexes_there part (is_part outcome h) sector goods bads first s.sector_known h.is in
-      let place : sector_place format track sector - place_of format track ≡ size * slot format sector = omega arith in
+  good : GoodIsRightInPlans → (good bad : ℕ) (first : Place) → HasVerdict format x n sector (Good good bad first) → IsRightlyGoodOnDisk format x d.image n sector first
+  good right g b first h =
+      let r = right decoding format (streams_in decoding x) n here.captures here.many here.each sector g b first (is (Good g b first) h) in
+      let there = named_there first r.bytes r.named.capture r.named.clock r.named.place r.named.low r.named.used (r.named.is, r.named.stands) in
+      let one : 0 < 1 = omega arith in
       record {
         bytes = r.bytes;
-        stands = r.stands;
-        turn = r.turn;
-        size = (read.told format track).content_size (drop first.cell (cells_at format x n)) sector r.bytes r.stands;
-        in_image = in_disk outcome h fills joined ∙ ap (λ (k : ℕ). take {A = ℕ} size (drop k part.image)) (sym place) ∙ r.in_image;
-        agreed = r.agreed;
+        stands = there.0;
+        turn = there.1;
+        size = r.size;
+        in_image = ap (λ (e : Decoded). bytes_at format e.image (track_at format n) sector) same ∙ here.held ∙ r.in_image;
+        agreed = λ place others at.
+            r.agreed 0 Following place others one tt
+            (subst (λ (k : ℕ). sector_at format (track_at format n) (drop place (cells_of format (track_at format n) (times (stream_at x k)) (indexes (stream_at x k)))) sector others)
+            (sym (number-is n)) at);
       }
 
-  -- the verdict of the list of readings that the outcome is made of
-  has_one : HasOneVerdict format x n sector
-  has_one =
-      let comes = (s.outcome.each n decoded).comes in
-      let outcome = verdict (readings_of times_there indexes_there (cells_at format x n) comes.found) sector in
-      let own : HasVerdict format x n sector outcome = record { found = comes.found; all = comes.all; is = refl } in
-      record { outcome = outcome; has = own; only = only outcome own }
+pub each_has_one_verdict : TracksAreRead → SectorsAreSaid → EachHasOneVerdict
+each_has_one_verdict read said format x d n sector s = has_one read said format x d n sector s
 
-pub each_has_one_verdict : TracksAreRead → EachHasOneVerdict
-each_has_one_verdict read format x o n sector s = has_one read format x o n sector s
+pub lines_name_verdicts : TracksAreRead → SectorsAreSaid → LinesNameVerdicts
+lines_name_verdicts read said format x d n sector s outcome h = has_line read said format x d n sector s outcome h
 
-pub lines_name_verdicts : TracksAreRead → SectorsHaveOneLine → LinesNameVerdicts
-lines_name_verdicts read one format x o n sector s outcome h = has_line read format x o n sector s outcome h one
+pub good_is_right_on_disks : TracksAreRead → SectorsAreSaid → GoodIsRightInPlans → GoodIsRightOnDisks
+good_is_right_on_disks read said right format x d n sector s g b first h = good read said format x d n sector s right g b first h
 
-pub good_is_right_on_disks : TracksAreRead → SectorsFillTracks → TracksJoin → GoodIsRightOnDisks
-good_is_right_on_disks read fills joined format x o n sector s g b first h = good read format x o n sector s fills joined g b first h
+pub others_are_zeros : TracksAreRead → SectorsAreSaid → OthersAreZeros
+others_are_zeros read said format x d n sector s outcome h other = zeros read said format x d n sector s outcome h other
 
-pub others_are_zeros : TracksAreRead → SectorsFillTracks → TracksJoin → OthersAreZeros
-others_are_zeros read fills joined format x o n sector s outcome h other = zeros read format x o n sector s outcome h fills joined other
+same_total : (stop : Option RefusedCapture) → total_lines (plain_stop stop) ≡ total_lines stop
+same_total None = refl
+same_total (Some s) = refl
+
+pub reports_have_no_other_lines : PlannedReportsHaveNoOtherLines → ReportsHaveNoOtherLines
+reports_have_no_other_lines count format x d is =
+    let planned = is_planned format x d is in
+    let o : Planned = planned.0 in
+    ap (λ (e : Decoded). line_ends e.notes) planned.2
+    ∙ count decoding format (streams_in decoding x) o planned.1
+    ∙ ap (λ (m : ℕ). sectors_before format m + total_lines o.stop) (sym (count_is format d o planned.2))
+    ∙ ap (λ (m : ℕ). sectors_before format (decoded_count format d.stop) + m) (sym (ap (λ (e : Decoded). total_lines e.stop) planned.2 ∙ same_total o.stop))
+
+pub lines_tell_verdicts : LinesTellInPlans → InputsAreShort → LinesTellVerdicts
+lines_tell_verdicts tell short format x d is track sector outcome number fits h =
+    let planned = is_planned format x d is in
+    let o : Planned = planned.0 in
+    let one : 1 ≤ 1 = omega arith in
+    let t = tell decoding format (streams_in decoding x) o (omega arith) refl (one, refl) (short decoding x) planned.1 track sector outcome number fits
+    (subst (λ (e : Decoded). HasLine e.notes (sector_text track sector outcome) number) planned.2 h) in
+    let count = count_is format d o planned.2 in
+    record {
+      n = t.n;
+      track_is = t.track_is;
+      decoded = record { outcome = is; track_decoded = omega (arith, t.low, count); sector_known = t.known };
+      has = subst (HasVerdict format x t.n sector) t.is (verdict_of format x o t.n sector (line_number format t.n sector) t.said);
+      number_is = t.number_is;
+    }

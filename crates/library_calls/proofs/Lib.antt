@@ -1,3 +1,4 @@
+pub mod Stops
 pub mod OneStream
 pub mod OneCapture
 pub mod OneClock
@@ -9,7 +10,6 @@ pub mod Outcomes
 pub mod DiskParts
 pub mod DiskSectors
 pub mod Growing
-pub mod ReportLines
 pub mod SetCauses
 pub mod SetOfOne
 pub mod CapturedDisks

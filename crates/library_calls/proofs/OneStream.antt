@@ -19,7 +19,7 @@ use Rattle.library_calls.specs.Answers.{EndsInStreams}
 use Rattle.flux_engine.specs.Needed.{ReadsWhereOpen}
 use Rattle.flux_engine.specs.PlanProgress.{StoppedAt}
 use Rattle.flux_engine.specs.declared.fault.RefusedCapture.{RefusedCapture}
-use Rattle.flux_engine.specs.Plans.{EndsInPlan, IsPlannedPart, PartOf, StopsAt, decoding, joined, streams_in}
+use Rattle.flux_engine.specs.Plans.{AreCaptures, EndsInPlan, IsPlannedPart, PartOf, StopsAt, decoding, joined, streams_in}
 use Rattle.flux_engine.specs.Recordings.{cells_of, track_at}
 use Rattle.flux_engine.specs.Streams.{stream_at}
 use Rattle.flux_engine.specs.Tracks.{Found, TrackPart, readings_of, track_notes}
@@ -43,21 +43,26 @@ pub record IsOfOneStream (of : PartOf) (format : Format) (x : List ℕ) (n : ℕ
   pub is : part ≡ of format (track_at format n)
       (track_notes (readings_of (times (stream_at x n)) (indexes (stream_at x n)) (cells_of format (track_at format n) (times (stream_at x n)) (indexes (stream_at x n))) found) [] [])
 
+-- the readings of its captures are all that can be read of it
+pub one_list : (format : Format) (x : List ℕ) (n : ℕ) (captures : List (List NotedReading)) → length captures ≡ 1 → AreCaptures decoding format (streams_in decoding x) n captures
+    → AreReadingsAt format (track_at format n) (times (stream_at x n)) (indexes (stream_at x n)) 0 (joined captures)
+one_list format x n captures many each =
+    let readings : List NotedReading = get_or captures 0 [] in
+    let one = each 0 (omega (arith, many)) in
+    subst (AreReadingsAt format (track_at format n) (times (stream_at x n)) (indexes (stream_at x n)) 0) (sym (one_joined captures many))
+    (subst (λ (k : ℕ). AreReadingsAt format (track_at format n) (times (stream_at x k)) (indexes (stream_at x k)) 0 readings) (number-is n)
+    (subst (AreReadingsAt format (track_at format n) (times (stream_at x (n * 1 + 0))) (indexes (stream_at x (n * 1 + 0))) 0) (sym one.are) (one.each Following tt)))
+
 pub one_stream : (of : PartOf) (format : Format) (x : List ℕ) (n : ℕ) (part : TrackPart) → IsPlannedPart decoding of format (streams_in decoding x) n part
     → IsOfOneStream of format x n part
 one_stream of format x n part p =
-    let here : stream_at x (n * 1 + 0) ≡ stream_at x n = ap (stream_at x) (number-is n) in
     let first : 0 < 1 = omega arith in
-    let readings : List NotedReading = get_or p.captures 0 [] in
-    let one = p.each 0 (omega (arith, p.many)) in
-    let at : AreReadingsAt format (track_at format n) (times (stream_at x n)) (indexes (stream_at x n)) 0 readings =
-    subst (λ (y : List ℕ). AreReadingsAt format (track_at format n) (times y) (indexes y) 0 readings) here
-    (subst (AreReadingsAt format (track_at format n) (times (stream_at x (n * 1 + 0))) (indexes (stream_at x (n * 1 + 0))) 0) (sym one.are) (one.each Following tt)) in
+    let at = one_list format x n p.captures p.many p.each in
     record {
-      no_fault = subst (λ (y : List ℕ). first_fault y ≡ None) here (p.no_fault 0 first);
+      no_fault = subst (λ (k : ℕ). first_fault (stream_at x k) ≡ None) (number-is n) (p.no_fault 0 first);
       found = at.found;
       all = at.all;
-      is = p.is ∙ ap (λ (rs : List NotedReading). of format (track_at format n) (track_notes rs [] p.others)) (one_joined p.captures p.many ∙ at.are)
+      is = p.is ∙ ap (λ (rs : List NotedReading). of format (track_at format n) (track_notes rs [] p.others)) at.are
           ∙ ap (λ (os : List NotedOther). of format (track_at format n)
           (track_notes (readings_of (times (stream_at x n)) (indexes (stream_at x n)) (cells_of format (track_at format n) (times (stream_at x n)) (indexes (stream_at x n))) at.found) [] os))
           (strict_has_no_others decoding format (streams_in decoding x) n 1 p.others refl p.others_are);

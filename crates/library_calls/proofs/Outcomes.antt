@@ -1,7 +1,6 @@
 -- The laws of the engine.
-use Rattle.std.specs.Prelude.{◌≡◌, ◌≤◌, ◌<◌, ℕ, ◌-◌, ◌*◌, List, [], ◌++◌, length, take, drop, find, Option, Some, None, option_and_then, option_map, refl}
-use Rattle.std.specs.List.{range_with_len}
-use Rattle.std.proofs.Common.{ap, sym, subst, ◌∙◌, arith, inl, inr, append_assoc, length-take-le}
+use Rattle.std.specs.Prelude.{◌≡◌, ◌≤◌, ◌<◌, ℕ, ◌-◌, ◌*◌, List, [], ◌++◌, length, take, drop, Option, Some, None, refl}
+use Rattle.std.proofs.Common.{ap, sym, ◌∙◌, arith, inl, inr, append_assoc, length-take-le}
 use Rattle.std.proofs.lemmas.List.{ext_get_or, get_or-take, take-append-drop}
 use Rattle.std.proofs.lemmas.Bool.{cases_lt}
 use Rattle.std.proofs.lemmas.List.Concat.{flat_map-append}
@@ -13,7 +12,7 @@ use Rattle.sector_images.specs.Places.{SectorsFillTracks, place_of, sector_in, s
 use Rattle.sector_images.specs.declared.format.Format.{Format}
 use Rattle.turn_merge.specs.Readings.{bytes_of}
 use Rattle.turn_merge.specs.declared.clock.Clock.TheVariants.{Following}
-use Rattle.library_calls.specs.Disks.{AreParts, Decoded, Stop, decoded_count, stop_at, stop_of, has_fault, IsPart}
+use Rattle.library_calls.specs.Disks.{AreParts, Decoded, Stop, decoded_count, stop_of, IsPart}
 use Rattle.flux_engine.specs.Disks.{images, last_line, lines, no_totals, part_at, report_over, totals_over}
 use Rattle.library_calls.specs.Laws.{OneOutcome, FirstTracksLead, GoodIsRight}
 use Rattle.disk_recordings.specs.Laws.{TracksAreRead}
@@ -21,41 +20,24 @@ use Rattle.disk_recordings.specs.Members.{header_at, sector_at}
 use Rattle.flux_engine.specs.Recordings.{track_at, sectors_of, cells_of}
 use Rattle.flux_engine.specs.Streams.{stream_at}
 use Rattle.flux_engine.specs.Tracks.{Found, TrackPart, image_of, part_of, readings_of}
+use Rattle.library_calls.proofs.Stops.{stops_there}
 use Rattle.flux_engine.specs.lemmas.GoodSectors.{head_of, head_holds, all_agree, good_image, strict_good}
-
-abbrev pub stop_track : Option Stop → ℕ
-stop_track None = 0
-stop_track (Some s) = s.track
 
 no_part : TrackPart
 no_part = record { image = []; lines = []; totals = no_totals }
-
-by_fault : (x : List ℕ) (n : ℕ) (s : Stop) (fault : Option (ℕ × StreamFault)) → first_fault (stream_at x n) ≡ fault
-    → option_map (λ (f : ℕ × StreamFault). let stop : Stop = record { track = n; block = f.0; fault = f.1 } in stop) fault ≡ Some s
-    → (f : ℕ × StreamFault) × (first_fault (stream_at x s.track) ≡ Some f)
-by_fault x n s None is stop = absurd (cc)
-by_fault x n s (Some f) is stop =
-    let same : n ≡ s.track = ap (λ (o : Option Stop). stop_track o) stop in
-    (f, subst (λ (k : ℕ). first_fault (stream_at x k) ≡ Some f) same is)
-
-stop_faults : (x : List ℕ) (s : Stop) (found : Option ℕ) → option_and_then (stop_at x) found ≡ Some s
-    → (f : ℕ × StreamFault) × (first_fault (stream_at x s.track) ≡ Some f)
-stop_faults x s None stop = absurd (cc)
-stop_faults x s (Some n) stop = by_fault x n s (first_fault (stream_at x n)) refl stop
 
 not_none : (o : Option (ℕ × StreamFault)) (f : ℕ × StreamFault) → o ≡ Some f → o ≡ None → ⊥
 not_none o f some none = cc
 
 stop_late : (format : Format) (x : List ℕ) (parts : List TrackPart) → AreParts format x parts → length parts ≤ length (tracks format)
     → (stop : Option Stop) → stop_of format x ≡ stop → length parts ≤ decoded_count format stop
-unfolding stop_of
 stop_late format x parts are within None is = within
 stop_late format x parts are within (Some s) is =
     elim (cases_lt s.track (length parts)) [
       | inr late ↦ late
       | inl early ↦
-          let fault = stop_faults x s (find (has_fault x) (range_with_len 0 (length (tracks format)))) is in
-          absurd (not_none (first_fault (stream_at x s.track)) fault.0 fault.1 (are s.track early).no_fault)
+          let fault = (stops_there format x s is).1 in
+          absurd (not_none (first_fault (stream_at x s.track)) (s.block, s.fault) fault (are s.track early).no_fault)
     ]
 
 module _ (read : TracksAreRead) where

@@ -6,12 +6,10 @@ ghost use Rattle.library_calls.specs.DiskLaws.{PartsStandAtTheirPlaces, ReportsH
 ghost use Rattle.library_calls.specs.Laws.{CutInputsLead, FirstTracksLead, GoodIsRight, OneOutcome, PartsStay};
 
 use disk_recordings::tracks_are_read;
+use flux_engine::plans_are_right;
 use kryo_stream::growth_law;
-use phase_loop::cells_are_few;
-use sector_images::{
-    sectors_fill_tracks, sectors_lie_in_images, tracks_fill_images, tracks_keep_bounds,
-};
-use sector_report::{sector_lines_tell, sectors_have_one_line, totals_have_one_line};
+use law_captured_plans::{planned_lines_tell, planned_sectors_are_said};
+use sector_images::{sectors_fill_tracks, tracks_fill_images};
 
 /// An input comes to one outcome, and what its first tracks come to is what the outcome begins with.
 pub fn outcomes_are_one()
@@ -66,9 +64,8 @@ pub fn good_is_right_on_disks()
     ensures others { OthersAreZeros }
 {
     tracks_are_read();
-    sectors_fill_tracks();
-    sectors_have_one_line();
-    tracks_fill_images()
+    planned_sectors_are_said();
+    plans_are_right()
 }
 
 /// The report of a decoded disk has one line for each sector of its decoded tracks, and the total line where all
@@ -78,12 +75,5 @@ pub fn lines_tell_verdicts()
     ensures count { ReportsHaveNoOtherLines }
     ensures told { LinesTellVerdicts }
 {
-    tracks_are_read();
-    sectors_have_one_line();
-    totals_have_one_line();
-    sector_lines_tell();
-    growth_law();
-    cells_are_few();
-    tracks_keep_bounds();
-    sectors_lie_in_images()
+    planned_lines_tell()
 }
