@@ -197,7 +197,7 @@ fn take_all<H: Shelf>(
 }
 
 /// How many cylinders the names of a dump's files reach.
-fn most_cylinders(stepping: Stepping) -> u8
+pub fn most_cylinders(stepping: Stepping) -> u8
     ensures { result ≡ most_cylinders stepping }
 {
     match stepping {
@@ -207,7 +207,7 @@ fn most_cylinders(stepping: Stepping) -> u8
 }
 
 /// The number of the format's track that is the same, if one is.
-fn number_of(format: Format, track: TrackId) -> Option<u32>
+pub fn number_of(format: Format, track: TrackId) -> Option<u32>
     ensures at { IfSome result (λ number. slice_get (tracks format) number ≡ Some track) }
     ensures is { is_some result ≡ is_track format track }
 {
@@ -221,7 +221,7 @@ fn number_of(format: Format, track: TrackId) -> Option<u32>
 
 /// The number of the format's nearest track: of the same cylinder or of the last one, on the same head or on the last
 /// one. (In either order the last track has the last cylinder and the last head.)
-fn near_number(format: Format, track: TrackId) -> u32
+pub fn near_number(format: Format, track: TrackId) -> u32
     ensures low { result < length (tracks format) }
     ensures near { track_at format result ≡ near_track format track }
 {

@@ -12,7 +12,7 @@ mod reading;
 mod report;
 mod totals;
 
-pub use beside::{BesideWriter, Unsaid};
+pub use beside::{BesideWriter, Unsaid, most_cylinders, near_number, number_of};
 pub use dumps::Dumps;
 pub use fault::NoFiles;
 pub use looking::find_empty;

@@ -277,7 +277,7 @@ few_told others =
     let least = length-take MOST_TOLD (first_ones others) in
     omega (arith, size, least)
 
-told_all : (known : OthersKnown) (others : List NotedOther) → OthersStandFor known others → take MOST_TOLD known.told ≡ others_over others
+pub told_all : (known : OthersKnown) (others : List NotedOther) → OthersStandFor known others → take MOST_TOLD known.told ≡ others_over others
 told_all known others stands = ap (take MOST_TOLD) stands.told ∙ take_all MOST_TOLD (others_over others) (few_told others)
 
 -- the other headers of one track more

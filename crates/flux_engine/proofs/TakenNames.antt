@@ -65,7 +65,7 @@ module _ (names : NamesAreTold) (format : Format) (near : TrackId) (capture : �
   unfolding recovered
   no_names_by clock = record { found = []; all = no_names_in; are = refl }
 
-  no_names : (clocks : Clocks) (known : OthersKnown) → HasNamesOf clocks format near [] [] capture known known
+  pub no_names : (clocks : Clocks) (known : OthersKnown) → HasNamesOf clocks format near [] [] capture known known
   no_names clocks known = record {
     others = [];
     others_are = record { by_clock = λ clock. []; each = λ clock used. no_names_by clock; are = joined_nothing clocks };

@@ -26,3 +26,4 @@ pub mod SourceStreams
 pub mod PlanLaws
 pub mod lemmas
 pub mod Names
+pub mod Tallies

@@ -14,14 +14,15 @@ ghost use Rattle.cell_bits.specs.State.{room};
 ghost use Rattle.flux_engine.specs.Gathering.{AreCellsOf, HasNoted, HasNotedBy};
 ghost use Rattle.flux_engine.specs.PlanAnswers.{ReadsByClocks};
 ghost use Rattle.flux_engine.specs.Reading.{IsBounded};
-ghost use Rattle.flux_engine.specs.Recordings.{cells_by, start_by as start_of_clock, track_at};
+ghost use Rattle.flux_engine.specs.Recordings.{cells_by, start_by as start_of_clock, start_of, track_at};
 ghost use Rattle.flux_engine.specs.Recordings.{sectors_of as sectors_in};
-ghost use Rattle.flux_engine.specs.Room.{IsRoomy, MOST_CELLS, MOST_READINGS, MOST_SOURCES};
+ghost use Rattle.flux_engine.specs.Room.{IsBookOf, IsRoomy, MOST_CELLS, MOST_READINGS, MOST_SOURCES};
 ghost use Rattle.flux_engine.specs.TrackParts.{WritesPart};
 ghost use Rattle.flux_engine.specs.Tracks.{track_notes};
 ghost use Rattle.flux_engine.specs.Writing.{IsSum, Knows};
 ghost use Rattle.kryo_stream.specs.Outcome.{IsReadWhereNeeded};
 ghost use Rattle.kryo_stream.specs.Reads.{reads_at};
+ghost use Rattle.phase_loop.specs.Rows.{recovered};
 ghost use Rattle.phase_loop.specs.Start.{IsStart};
 ghost use Rattle.sector_images.specs.Places.{IsTrack, tracks};
 ghost use Rattle.turn_merge.specs.Book.{IsKnown, MOST_NOTES, SameShape, StandsFor};
@@ -276,8 +277,42 @@ fn note_readings(
         &mut tools.clock,
         &mut tools.cells,
     );
-    let cells = &tools.cells;
-    let gathered = &mut tools.gathered;
+    note_in_cells(
+        rule,
+        clock,
+        format,
+        track,
+        capture,
+        flux,
+        &tools.cells,
+        &mut tools.gathered,
+    );
+}
+
+/// Notes all readings of a track's sectors by the rule in the book, in the cells that the clock recovers of a capture.
+pub(crate) fn note_in_cells(
+    rule: Rule,
+    clock: Clock,
+    format: Format,
+    track: TrackId,
+    capture: u8,
+    flux: &TrackFlux,
+    cells: &Cells,
+    gathered: &mut Gathered,
+)
+    requires track { IsTrack format track }
+    requires bounded { IsBounded flux.now }
+    requires cells { cells.now.cells ≡ cells_by clock format track flux.now.times flux.now.indexes }
+    requires are { AreCellsOf flux.now.times cells.now.cells }
+    requires book { IsBookOf format gathered.old.book }
+    requires knows { Knows (sectors_in format track) gathered.old.book }
+    requires few { gathered.old.book.notes + MOST_READINGS ≤ MOST_NOTES }
+    requires few_others { gathered.old.others.notes + MOST_READINGS ≤ MOST_NOTES }
+    ensures noted { HasNoted rule clock format track flux.now.times flux.now.indexes capture gathered.old.book
+        gathered.new.book gathered.old.others gathered.new.others }
+    ensures kept { gathered.new.passed ≡ gathered.old.passed }
+    ensures book { IsBookOf format gathered.new.book }
+{
     match rule {
         Rule::Strict => {
             let recording = recording_of(format, DiskId::ANY);
@@ -314,10 +349,46 @@ pub fn recover_cells(
     ensures are { AreCellsOf flux.now.times cells.new.cells }
     ensures room { room cells.old ≤ room cells.new }
 {
+    recover_from(
+        clock_start(clock, format, track, flux),
+        flux,
+        follower,
+        cells,
+    );
+}
+
+/// Where a clock starts on a capture of a track.
+pub(crate) fn clock_start(
+    clock: Clock,
+    format: Format,
+    track: TrackId,
+    flux: &TrackFlux,
+) -> LoopStart
+    requires track { IsTrack format track }
+    requires bounded { IsBounded flux.now }
+    ensures start { result ≡ start_of_clock clock (start_of format track flux.now.indexes) }
+    ensures bounds { IsStart result }
+{
     tracks_keep_bounds();
     let turn = flux.first_turn_ticks();
     let mean = LoopStart::for_turn(nominal(format, track), turn, ring_cells(format, track));
-    let start = start_by(clock, mean);
+    start_by(clock, mean)
+}
+
+/// Recovers the cells of a capture from where a clock starts.
+pub(crate) fn recover_from(
+    start: LoopStart,
+    flux: &TrackFlux,
+    follower: &mut Loop,
+    cells: &mut Cells,
+)
+    requires start { IsStart start }
+    requires bounded { IsBounded flux.now }
+    requires room { MOST_CELLS ≤ room cells.old }
+    ensures cells { cells.new.cells ≡ recovered start flux.now.times }
+    ensures are { AreCellsOf flux.now.times cells.new.cells }
+    ensures room { room cells.old ≤ room cells.new }
+{
     match recover(flux, start, follower, cells) {
         Ok(()) => {}
         // There is room for 32 cells of each transition.

@@ -10,7 +10,7 @@ ghost use Rattle.flux_engine.specs.LoopProgress.{IsBoundedNext, seen_next};
 ghost use Rattle.flux_engine.specs.Names.{HasNamesBy, HasNamesOf, HasNotedNames, HasTakenNames, passed_beside};
 ghost use Rattle.flux_engine.specs.Plans.{Seen};
 ghost use Rattle.flux_engine.specs.Reading.{IsBounded};
-ghost use Rattle.flux_engine.specs.Recordings.{track_at};
+ghost use Rattle.flux_engine.specs.Recordings.{cells_by, track_at};
 ghost use Rattle.flux_engine.specs.Room.{IsRoomy, MOST_CELLS, MOST_READINGS, MOST_SOURCES};
 ghost use Rattle.flux_engine.specs.Rules.{no_header};
 ghost use Rattle.sector_images.specs.Places.{IsTrack, tracks};
@@ -200,15 +200,35 @@ fn names_by_clock(
         &mut tools.clock,
         &mut tools.cells,
     );
-    let recording = recording_of(controller_format(format), DiskId::ANY);
-    gather_names(
-        &recording,
+    names_in_cells(
+        clock,
+        format,
+        near,
+        capture,
         flux,
         &tools.cells,
-        capture,
-        clock,
         &mut tools.gathered.others,
     );
+}
+
+/// Notes all headers in the cells that a clock recovers of a capture, as those of this track.
+pub(crate) fn names_in_cells(
+    clock: Clock,
+    format: Format,
+    near: TrackId,
+    capture: u8,
+    flux: &TrackFlux,
+    cells: &Cells,
+    others: &mut Others,
+)
+    requires bounded { IsBounded flux.now }
+    requires cells { cells.now.cells ≡ cells_by clock format near flux.now.times flux.now.indexes }
+    requires are { AreCellsOf flux.now.times cells.now.cells }
+    requires few_others { others.old.notes + MOST_READINGS ≤ MOST_NOTES }
+    ensures { HasNamesBy clock format near flux.now.times flux.now.indexes capture others.old others.new }
+{
+    let recording = recording_of(controller_format(format), DiskId::ANY);
+    gather_names(&recording, flux, cells, capture, clock, others);
 }
 
 /// Notes all headers in the cells that a clock recovered of a capture, whatever they name, each with whether whole
@@ -239,7 +259,11 @@ fn gather_names<R: Recording>(
 
 /// The first place that is at least `from` and at which a header stands, and its name. None exactly where there is
 /// none.
-fn next_name<R: Recording>(recording: &R, cells: &Cells, from: usize) -> Option<(usize, HeaderName)>
+pub fn next_name<R: Recording>(
+    recording: &R,
+    cells: &Cells,
+    from: usize,
+) -> Option<(usize, HeaderName)>
     ensures first { FirstAt (λ place name. R.named_at recording.now (drop place cells.now.cells) name) from result }
     ensures within { IfSome result (λ found. found.0 < length cells.now.cells) }
 {

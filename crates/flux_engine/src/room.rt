@@ -1,6 +1,6 @@
 ghost use Rattle.std.specs.Prelude.{◌≡◌, ◌+◌, ◌≤◌, ◌<◌, ◌^◌, [], false, length, IfOk};
 ghost use Rattle.flux_engine.specs.Counts.{lost_in};
-ghost use Rattle.flux_engine.specs.Room.{empty_book};
+ghost use Rattle.flux_engine.specs.Room.{IsBookOf, IsStarted, empty_book};
 
 use crate::gathered_track::{Gathered, PassedStream, PassedStreams};
 use crate::told_names::{name_count, whole_name_count};
@@ -202,19 +202,32 @@ impl Tools {
         let clock = Loop::new(alloc)?;
         let mut cells = Cells::new(alloc);
         cells.reserve(MOST_CELLS)?;
-        tracks_keep_bounds();
-        let book = format_book(alloc, format)?;
-        let others = Others::new(alloc)?;
+        let gathered = format_gathered(alloc, format)?;
         Ok(Tools {
             clock,
             cells,
-            gathered: Gathered {
-                book,
-                passed: PassedStreams::new(),
-                others,
-            },
+            gathered,
         })
     }
+}
+
+/// Room for what is gathered of a track of a format's disks, of which the first is started.
+pub fn format_gathered(alloc: Global, format: Format) -> Result<Gathered, Memory>
+    ensures book { IfOk result (λ gathered. IsBookOf format gathered.book) }
+    ensures started { IfOk result (λ gathered. IsStarted format 0 0 gathered.book gathered.others) }
+    ensures empty { IfOk result (λ gathered. gathered.book ≡ empty_book format) }
+    ensures none { IfOk result (λ gathered. gathered.passed.items ≡ []) }
+    ensures no_others { IfOk result
+        (λ gathered. gathered.others ≡ record { notes = 0; told = []; untold = false }) }
+{
+    tracks_keep_bounds();
+    let book = format_book(alloc, format)?;
+    let others = Others::new(alloc)?;
+    Ok(Gathered {
+        book,
+        passed: PassedStreams::new(),
+        others,
+    })
 }
 
 /// A book for the tracks of a format's disks, of which the first is started.

@@ -1,16 +1,13 @@
-use Rattle.std.proofs.Common.{arith, subst, sym}
+use Rattle.std.proofs.Common.{subst, sym}
 use Rattle.flux_engine.specs.Room.{IsBookOf, IsStarted, empty_book}
 use Rattle.flux_engine.proofs.FormatBooks.{is-book, is-started}
 use Rattle.flux_engine.proofs.Noting.{no_others_is}
 use Rattle.turn_merge.specs.Book.{Knowledge}
 use Rattle.turn_merge.specs.Others.{OthersKnown}
-use Rattle.flux_engine.proofs.room.Tools.reserve.Goals as goal
+use Rattle.flux_engine.proofs.room.format_gathered.Goals as goal
 
-pub returns-clause-roomy : goal.returns-clause-roomy
-returns-clause-roomy c = record {
-  for_cells = omega (arith, c.in_ok-reserve.ensures.spare);
-  for_book = subst (IsBookOf c.args.format) (sym c.in_ok-book.ensures) (is-book c.tracks_keep_bounds.ensures.some c.tracks_keep_bounds.ensures.bounds c.args.format);
-}
+pub returns-clause-book : goal.returns-clause-book
+returns-clause-book c = subst (IsBookOf c.args.format) (sym c.in_ok-book.ensures) (is-book c.tracks_keep_bounds.ensures.some c.tracks_keep_bounds.ensures.bounds c.args.format)
 
 pub returns-clause-started : goal.returns-clause-started
 returns-clause-started c =
