@@ -1,9 +1,8 @@
 -- Which number a track has among those of a format, and which tracks files can be named by.
-use Rattle.std.specs.Prelude.{◌≡◌, ℕ, zero, suc, ◌+◌, ◌-◌, ◌*◌, ◌/◌, ◌%◌, ◌<◌, ◌≤◌, ◌⊎◌, Bool, true, false, ◌&&◌, nat_eq, nat_lt, not, cond, min, List, [], ◌∷◌, length, take, filter, get_or, slice_get, Some, refl}
-use Rattle.std.specs.List.{flat_map, range_with_len}
+use Rattle.std.specs.Prelude.{◌≡◌, ℕ, zero, suc, ◌+◌, ◌-◌, ◌*◌, ◌/◌, ◌%◌, ◌<◌, ◌≤◌, ◌⊎◌, Bool, true, false, ◌&&◌, nat_eq, not, cond, min, List, [], ◌∷◌, length, take, filter, get_or, slice_get, Some, refl}
 use Rattle.std.proofs.Common.{ap, sym, subst, ◌∙◌, arith, inl, inr}
 use Rattle.std.proofs.Math.Nat.{mul-le-mul, mul-le-mul_right, suc-mul, mul_comm}
-use Rattle.std.proofs.lemmas.Bool.{cases_lt, eq-eqb, le-ltb}
+use Rattle.std.proofs.lemmas.Bool.{cases_lt, eq-eqb}
 use Rattle.std.proofs.lemmas.List.{take_all}
 use Rattle.std.proofs.lemmas.Option.{get_or_from_slice_get}
 use Rattle.flux_base.specs.declared.track.TrackId.{TrackId}
@@ -14,8 +13,8 @@ use Rattle.sector_images.specs.declared.format.Format.{Format}
 use Rattle.sector_images.specs.declared.format.Format.TheVariants.{Ibm3740, Ibm360, Ibm720, Ibm1440, Amiga, C1541, C1541Forty, AppleDo, ApplePo, AppleDos33, AppleProdos, Mac400, Mac800, C1571, AmigaHd, C8050, C8250, C1581, Numbered}
 use Rattle.flux_engine.specs.Recordings.{track_at}
 use Rattle.track_shelf.specs.declared.stepping.Stepping.{Stepping}
-use Rattle.track_shelf.specs.declared.stepping.Stepping.TheVariants.{Double, Single}
-use Rattle.dump_reading.specs.Beside.{beside_at, beside_tracks, both_heads, is_track, most_cylinders, named_tracks, near_track}
+use Rattle.dump_reading.specs.Beside.{beside_at, beside_tracks, is_track, most_cylinders, named_tracks, near_track}
+use Rattle.dump_reading.specs.lemmas.NamedTracks.{named-many, named-track, track-is-one}
 use Rattle.dump_reading.proofs.NextStreams.{track-is}
 
 -- the number of a row and a column is below that of all
@@ -127,21 +126,6 @@ last-track format last at is = by (in-order format)
         ∙ ap (λ (xs : List TrackId). get_or xs ((heads - 1) * cylinders + (cylinders - 1)) no_track) same
         ∙ get-grid by_head cylinders heads (heads - 1) (cylinders - 1) no_track (omega (arith, some_heads)) (omega (arith, some_cylinders))
 
-pub track-is-one : (format : Format) (track : TrackId) → is_track format track ≡ true → IsTrack format track
-track-is-one format track is = by (cases_lt track.cylinder (row format).cylinders) (cases_lt track.head (row format).heads)
-  where
-    and-false : (b : Bool) → (b && false) ≡ true → ⊥
-    and-false true same = cc
-    and-false false same = cc
-
-    by : (track.cylinder < (row format).cylinders) ⊎ ((row format).cylinders ≤ track.cylinder) → (track.head < (row format).heads) ⊎ ((row format).heads ≤ track.head) → IsTrack format track
-    by (inl low) (inl few) = (low, few)
-    by (inl low) (inr most) = absurd (and-false _ (ap (λ (b : Bool). nat_lt track.cylinder (row format).cylinders && b) (sym (le-ltb track.head (row format).heads most)) ∙ is))
-    by (inr past) other = absurd (let e = ap (λ (b : Bool). b && nat_lt track.head (row format).heads) (sym (le-ltb track.cylinder (row format).cylinders past)) ∙ is in false-true e)
-      where
-        false-true : false ≡ true → ⊥
-        false-true same = cc
-
 -- none of the first ones is this track
 abbrev pub NoneBefore : Format → TrackId → (n : ℕ) → Type 0
 NoneBefore format track n = (k : ℕ) → k < n → get_or (tracks format) k no_track ≡ track → ⊥
@@ -209,34 +193,6 @@ tracks-few format bounds some = by (in-order format)
     by (inl same) = few (ap (λ (xs : List TrackId). length xs) same ∙ length-grid by_cylinder heads cylinders)
     by (inr same) = few (ap (λ (xs : List TrackId). length xs) same ∙ length-grid by_head cylinders heads ∙ mul_comm heads cylinders)
 
--- the track of a number among those that files can be named by
-get-pairs : (first rows n : ℕ) → n < 2 * rows → get_or (flat_map both_heads (range_with_len first rows)) n no_track ≡ record { cylinder = first + n / 2; head = n % 2 }
-get-pairs first zero n below = absurd (omega (arith, below))
-get-pairs first (suc rows) zero below =
-    let same : first ≡ first + 0 / 2 = omega arith in
-    ap (λ (c : ℕ). record { cylinder = c; head = 0 }) same
-get-pairs first (suc rows) (suc zero) below =
-    let same : first ≡ first + 1 / 2 = omega arith in
-    ap (λ (c : ℕ). record { cylinder = c; head = 1 }) same
-get-pairs first (suc rows) (suc (suc m)) below =
-    let half : first + 1 + m / 2 ≡ first + suc (suc m) / 2 = omega arith in
-    let rest : m % 2 ≡ suc (suc m) % 2 = omega arith in
-    get-pairs (first + 1) rows m (omega (arith, below))
-    ∙ ap (λ (c : ℕ). record { cylinder = c; head = m % 2 }) half
-    ∙ ap (λ (h : ℕ). record { cylinder = first + suc (suc m) / 2; head = h }) rest
-
-length-pairs : (first rows : ℕ) → length (flat_map both_heads (range_with_len first rows)) ≡ 2 * rows
-length-pairs first zero = refl
-length-pairs first (suc rows) = (let more = length-pairs (first + 1) rows in omega (arith, more))
-
-pub named-track : (stepping : Stepping) (n : ℕ) → n < 2 * most_cylinders stepping → get_or (named_tracks stepping) n no_track ≡ record { cylinder = n / 2; head = n % 2 }
-named-track stepping n below =
-    let same : 0 + n / 2 ≡ n / 2 = omega arith in
-    get-pairs 0 (most_cylinders stepping) n below ∙ ap (λ (c : ℕ). record { cylinder = c; head = n % 2 }) same
-
-pub named-many : (stepping : Stepping) → length (named_tracks stepping) ≡ 2 * most_cylinders stepping
-named-many stepping = length-pairs 0 (most_cylinders stepping)
-
 -- what passes a test among the first items of a list, and the next one
 module _ {X : Type 0} (test : X → Bool) where
   filter-at : (xs : List X) (n : ℕ) (d : X) → n < length xs → test (get_or xs n d) ≡ true
@@ -303,10 +259,6 @@ module _ (stepping : Stepping) (format : Format) (n : ℕ) (below : n < 2 * most
       let none : beside_before stepping format n + 0 ≡ beside_before stepping format n = omega arith in
       ap (beside_before stepping format) one ∙ filter-more (λ track. not (is_track format track)) (named_tracks stepping) n no_track within
       ∙ ap (λ (b : Bool). beside_before stepping format n + cond b 1 0) fails ∙ none
-
-pub cylinders-few : (stepping : Stepping) → most_cylinders stepping ≤ 100
-cylinders-few Single = omega arith
-cylinders-few Double = omega arith
 
 -- all were looked at
 pub beside-all : (stepping : Stepping) (format : Format) (n : ℕ) → 2 * most_cylinders stepping ≤ n → beside_before stepping format n ≡ length (beside_tracks stepping format)

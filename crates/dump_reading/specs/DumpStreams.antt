@@ -42,9 +42,10 @@ seen_of (Some file) = seen_file file.bytes
 abbrev pub IsOrFailed : (came says : Seen) → Type 0
 IsOrFailed came says = (came ≡ says) ⊎ (came ≡ passed_over Failed)
 
--- the same files failed
+-- the same files failed, of those of which something came both times
 abbrev pub FailedAlike : (a b : List Seen) → Type 0
-FailedAlike a b = (i : ℕ) → is_failed (seen_at a i).passed ≡ is_failed (seen_at b i).passed
+FailedAlike a b = (i : ℕ) → i < length a → i < length b
+    → is_failed (seen_at a i).passed ≡ is_failed (seen_at b i).passed
 
 -- the path of the file of a track in the dump of this number
 abbrev pub path_in : Stepping → (dumps : List (List ℕ)) → TrackId → (dump : ℕ) → List ℕ

@@ -129,7 +129,8 @@ module _ (dump : List ℕ) (files : List File) (start now start' now' : ShelfNow
       let below' : n < length founds' = omega (arith, below, long) in
       let came = at-place start now founds one first n below in
       let came' = at-place start' now' founds' other second n below' in
-      let same : seen_at one.came n ≡ seen_at other.came n = one_stream (file_of n) (seen_at one.came n) (seen_at other.came n) came came' (alike n) in
+      let same : seen_at one.came n ≡ seen_at other.came n = one_stream (file_of n) (seen_at one.came n) (seen_at other.came n) came came'
+      (alike n (let many = one.many in omega (arith, many, below)) (let many = other.many in omega (arith, many, below'))) in
       one-found (file_of n) (seen_at one.came n) (found_at founds n) (found_at founds' n) came (one.told n below)
       (subst (λ (s : Seen). IsToldOf s (found_at founds' n)) (sym same) (other.told n below')) (one.sized files first n below) (other.sized files second n below'))
 

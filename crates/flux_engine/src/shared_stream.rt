@@ -74,6 +74,7 @@ impl Model for SharedStream {
 }
 
 impl SharedStream {
+    ghost use Rattle.std.specs.Prelude.{None};
     ghost use Rattle.flux_engine.specs.Tallies.{IsFewTally, IsNameTallyOf, IsTallyOf};
 
     /// Takes all memory that reading any stream needs. At first there is none.
@@ -102,7 +103,8 @@ impl SharedStream {
         source: &mut S,
     )
         requires { track.cylinder < 128 }
-        ensures { T.gave streams.now source.old source.new track capture self.new }
+        ensures gave { T.gave streams.now source.old source.new track capture self.new }
+        ensures whole { self.new.fault ≡ None }
     {
         self.recovered.start = None;
         self.next = streams.stream_of(track, capture, source, &mut self.stream);

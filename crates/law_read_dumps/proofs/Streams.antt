@@ -87,7 +87,8 @@ module _ (of : DumpTracks) (files : List File) (tracks : ℕ) (many : of.count �
   one_came a b p q first second alike =
       ext_get_or none_seen a b (p ∙ sym q)
       (λ i low.
-      one_stream (file_at files (path_at of i)) (seen_at a i) (seen_at b i) (at_place a p first i low) (at_place b q second i (omega (arith, low, p, q))) (alike i))
+      one_stream (file_at files (path_at of i)) (seen_at a i) (seen_at b i) (at_place a p first i low) (at_place b q second i (omega (arith, low, p, q)))
+      (alike i low (omega (arith, low, p, q))))
 
 -- the others of a track are decided by its streams
 module _ (read : RulesAreRead) where

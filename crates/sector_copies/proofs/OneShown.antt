@@ -59,7 +59,8 @@ module _ (asked : SectorAsked) (files : List File) (a b : SectorShown) (p : IsSe
 
   same_came : p.came ≡ q.came
   same_came = ext_get_or no_seen p.came q.came (p.many ∙ sym q.many)
-      (λ k low. let few : k < count = subst (λ (n : ℕ). k < n) p.many low in same_seen (seen_at p.came k) (seen_at q.came k) (of_file k) (at a p k few) (at b q k few) (alike k))
+      (λ k low. let few : k < count = subst (λ (n : ℕ). k < n) p.many low in same_seen (seen_at p.came k) (seen_at q.came k) (of_file k) (at a p k few) (at b q k few)
+      (alike k low (let many = q.many in omega (arith, many, few))))
 
   module _ (captures : List (List NotedReading)) (all : AreReadingsOfCame asked p.came captures) where
     abbrev Outcome : Verdict

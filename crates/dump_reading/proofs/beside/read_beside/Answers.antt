@@ -7,7 +7,8 @@ use Rattle.dump_reading.specs.Beside.{beside_at, beside_tracks}
 use Rattle.dump_reading.specs.Files.{shelf_at}
 use Rattle.dump_reading.specs.Outcomes.{disk_by}
 use Rattle.dump_reading.proofs.BesideSteps.{all-asked, at-place, below-more, looked-into, looked-first, looked-next, none-asked, none-here, one-here}
-use Rattle.dump_reading.proofs.TrackNumbers.{beside-next, beside-same, beside_before, cylinders-few, tracks-few}
+use Rattle.dump_reading.specs.lemmas.NamedTracks.{cylinders-few}
+use Rattle.dump_reading.proofs.TrackNumbers.{beside-next, beside-same, beside_before, tracks-few}
 use Rattle.dump_reading.proofs.beside.read_beside.Goals as goal
 use Rattle.dump_reading.proofs.beside.read_beside.Goals.{then-is_none+in-Ok, else-is_none}
 
