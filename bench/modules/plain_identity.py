@@ -13,14 +13,13 @@ OWN, FIRST, CHANGED = (0, 1), (0, 0), (1, 0)
 RECORDINGS = {"mfm": IbmMfm(1, 0, 0), "fm": IbmFm(1, 1, 128, 0, 0, 0, True)}
 
 
-def found(form, steps, answer, numbers):
-    """The line of a disk of which a sector is good, and how it is ranked: by most bytes in good sectors (by most good sectors alone, where no
-    numbers are asked for), then by fewest others that have data, then by the smallest disk."""
+def found(form, steps, answer):
+    """The line of a disk of which a sector is good, and how it is ranked: by most bytes in good sectors, then by fewest others that have data,
+    then by the smallest disk."""
     good, total = answer.number["good"], sum(answer.number.values())
     words = "--double-step " * (steps - 1) + form.word
     line = f"{words} good {good} of {total} other {answer.whole}" + f" failed {answer.failed}" * (answer.failed > 0) + "\n"
-    weight = form.recording.size if numbers else 1
-    return line, (good * weight, -answer.whole, -total), words, good == total and answer.whole == 0
+    return line, (good * form.recording.size, -answer.whole, -total), words, good == total and answer.whole == 0
 
 
 # The disks by numbers
@@ -173,7 +172,7 @@ def identify(shelf, name, numbers=True):
             read_tracks(dumps, form, answer, always=False)
             failed |= answer.failed > 0
             if answer.number["good"]:
-                line, rank, words, complete = found(form, steps, answer, numbers)
+                line, rank, words, complete = found(form, steps, answer)
                 lines.append(line)
                 if best is None or rank > best[0]:
                     best = rank, words, complete

@@ -1,5 +1,5 @@
 -- Which finding is the best of some.
-use Rattle.std.proofs.Common.{◌≡◌, ◌<◌, ◌≤◌, ◌⊎◌, ◌≢◌, inl, inr, ℕ, Bool, true, false, List, [], ◌∷◌, ◌++◌, Option, None, Some, arith, refl, sym, ap, subst, ◌∙◌, append-nil, append_assoc}
+use Rattle.std.proofs.Common.{◌≡◌, ◌<◌, ◌≤◌, ◌*◌, ◌⊎◌, ◌≢◌, inl, inr, mul-pos, zero-mul, ℕ, zero, suc, Bool, true, false, List, [], ◌∷◌, ◌++◌, Option, None, Some, arith, refl, sym, ap, subst, ◌∙◌, append-nil, append_assoc}
 use Rattle.std.specs.Prelude.{◌&&◌, All, cond, find, nat_eq, nat_lt, not}
 use Rattle.std.specs.Option.{option_or}
 use Rattle.std.specs.Bool.{Decides}
@@ -8,13 +8,20 @@ use Rattle.std.proofs.lemmas.Bool.{and_from, and_left, and_right, cases_lt, not_
 use Rattle.std.proofs.lemmas.Bool.Decides.{Decides-at, Decides-like, Decides-ltb, eqb_tells, not_from_Decides}
 use Rattle.std.proofs.lemmas.List.Elements.{All-append, All-cons, All-head, All-nil, All-push, All-tail}
 use Rattle.std.proofs.lemmas.List.Folds.{find-append, list_all-append}
-use Rattle.dump_identity.specs.Findings.{beats, best_of, good_in, has_good, is_over, is_unbeaten, sectors_in, whole_in}
+use Rattle.ibm_disks.specs.Disks.{track_of_disk}
+use Rattle.ibm_disks.specs.Numbers.{size_of}
+use Rattle.ibm_disks.specs.declared.sector_size.SectorSize.{SectorSize}
+use Rattle.ibm_disks.specs.declared.sector_size.SectorSize.TheVariants.{Bytes128, Bytes256, Bytes512, Bytes1024}
+use Rattle.sector_images.specs.Formats.{row}
+use Rattle.sector_images.specs.declared.format.Format.{Format}
+use Rattle.sector_images.specs.declared.format.Format.TheVariants.{Numbered}
+use Rattle.dump_identity.specs.Findings.{beats, best_of, bytes_in, good_in, has_good, is_over, is_unbeaten, sectors_in, whole_in}
 use Rattle.dump_identity.specs.declared.finding.Finding.{Finding}
 
--- more is good; or as much, and fewer others; or that too, and fewer sectors
-abbrev Over : (good others sectors good' others' sectors' : ℕ) → Type 0
-Over good others sectors good' others' sectors' =
-    (good' < good) ⊎ ((good ≡ good') × ((others < others') ⊎ ((others ≡ others') × (sectors < sectors'))))
+-- more bytes are good; or as many, and fewer others; or that too, and fewer sectors
+abbrev Over : (bytes others sectors bytes' others' sectors' : ℕ) → Type 0
+Over bytes others sectors bytes' others' sectors' =
+    (bytes' < bytes) ⊎ ((bytes ≡ bytes') × ((others < others') ⊎ ((others ≡ others') × (sectors < sectors'))))
 
 -- of as many good ones
 abbrev within : (w s v t : ℕ) → Bool
@@ -57,10 +64,10 @@ over-decides a w s b v t = by (eqb_tells a b) (eqb_tells w v)
         (Decides-like (nat_lt b a) (λ (l : b < a). inl l) (apart h.1) (Decides-ltb b a))
 
 abbrev Beats : Finding → Finding → Type 0
-Beats f g = Over (good_in f.totals) (whole_in f.totals) (sectors_in f.totals) (good_in g.totals) (whole_in g.totals) (sectors_in g.totals)
+Beats f g = Over (bytes_in f) (whole_in f.totals) (sectors_in f.totals) (bytes_in g) (whole_in g.totals) (sectors_in g.totals)
 
 decides : (f g : Finding) → Decides (beats f g) (Beats f g)
-decides f g = over-decides (good_in f.totals) (whole_in f.totals) (sectors_in f.totals) (good_in g.totals) (whole_in g.totals) (sectors_in g.totals)
+decides f g = over-decides (bytes_in f) (whole_in f.totals) (sectors_in f.totals) (bytes_in g) (whole_in g.totals) (sectors_in g.totals)
 
 over-none : (a w s b v t : ℕ) → Over a w s b v t → Over b v t a w s → ⊥
 over-none a w s b v t (inl x) (inl y) = omega (arith, x, y)
@@ -105,11 +112,22 @@ over-past a w s b v t c u r (inr x) (inr y) = inr (omega (arith, x.0, y.0), by x
 -- better than another is better than each that is not better than that one
 past : (f g h : Finding) → Beats f g → (Beats h g → ⊥) → Beats f h
 past f g h better fails =
-    over-past (good_in f.totals) (whole_in f.totals) (sectors_in f.totals) (good_in g.totals) (whole_in g.totals) (sectors_in g.totals) (good_in h.totals) (whole_in h.totals) (sectors_in h.totals) better
-    (over-not (good_in h.totals) (whole_in h.totals) (sectors_in h.totals) (good_in g.totals) (whole_in g.totals) (sectors_in g.totals) fails)
+    over-past (bytes_in f) (whole_in f.totals) (sectors_in f.totals) (bytes_in g) (whole_in g.totals) (sectors_in g.totals) (bytes_in h) (whole_in h.totals) (sectors_in h.totals) better
+    (over-not (bytes_in h) (whole_in h.totals) (sectors_in h.totals) (bytes_in g) (whole_in g.totals) (sectors_in g.totals) fails)
 
 none : (f g : Finding) → Beats f g → Beats g f → ⊥
-none f g = over-none (good_in f.totals) (whole_in f.totals) (sectors_in f.totals) (good_in g.totals) (whole_in g.totals) (sectors_in g.totals)
+none f g = over-none (bytes_in f) (whole_in f.totals) (sectors_in f.totals) (bytes_in g) (whole_in g.totals) (sectors_in g.totals)
+
+-- each sector has bytes
+some-size : (format : Format) → 0 < (row format).sector_size
+some-size (Numbered disk) = by (track_of_disk disk).size
+  where
+    by : (size : SectorSize) → 0 < size_of size
+    by Bytes128 = omega arith
+    by Bytes256 = omega arith
+    by Bytes512 = omega arith
+    by Bytes1024 = omega arith
+some-size format = omega arith
 
 -- a sector is good
 abbrev Some-good : Finding → Type 0
@@ -118,16 +136,22 @@ Some-good f = 0 < good_in f.totals
 good-decides : (f : Finding) → Decides (has_good f) (Some-good f)
 good-decides f = Decides-ltb 0 (good_in f.totals)
 
+-- it has bytes
+some-bytes : (f : Finding) → Some-good f → 0 < bytes_in f
+some-bytes f good = mul-pos good (some-size f.candidate.format)
+
+-- and what has bytes has a good sector
+some-sector : (good size : ℕ) → 0 < good * size → 0 < good
+some-sector zero size bytes = subst (λ (n : ℕ). 0 < n) (zero-mul size) bytes
+some-sector (suc good) size bytes = omega arith
+
 -- one with a good sector beats those without
 poor : (f g : Finding) → Some-good f → (Some-good g → ⊥) → Beats f g
-poor f g good fails = inl (omega (arith, good, no-good))
+poor f g good fails = inl (omega (arith, some-bytes f good, no-bytes (cases_lt 0 (bytes_in g))))
   where
-    no-good : good_in g.totals ≡ 0
-    no-good = by (cases_lt 0 (good_in g.totals))
-      where
-        by : (0 < good_in g.totals) ⊎ (good_in g.totals ≤ 0) → good_in g.totals ≡ 0
-        by (inl more) = absurd (fails more)
-        by (inr few) = omega (arith, few)
+    no-bytes : (0 < bytes_in g) ⊎ (bytes_in g ≤ 0) → bytes_in g ≡ 0
+    no-bytes (inl more) = absurd (fails (some-sector (good_in g.totals) (row g.candidate.format).sector_size more))
+    no-bytes (inr few) = omega (arith, few)
 
 -- it beats all before it, and none behind it beats it
 record Leads (findings : List Finding) (best : Finding) : Type 0 where
@@ -219,8 +243,11 @@ leads-next findings next (Some best) leads = by (beats next best) (decides next 
     }
       where
         more : Beats next best → Some-good best → Some-good next
-        more (inl x) good = omega (arith, x, good)
-        more (inr x) good = omega (arith, x.0, good)
+        more better good = some-sector (good_in next.totals) (row next.candidate.format).sector_size (above better (some-bytes best good))
+          where
+            above : Beats next best → 0 < bytes_in best → 0 < bytes_in next
+            above (inl x) some = omega (arith, x, some)
+            above (inr x) some = omega (arith, x.0, some)
     by false better = record {
       front = leads.front;
       back = leads.back ++ next ∷ [];

@@ -1,8 +1,9 @@
 -- What reading a dump as each disk comes to, and which disk is the best.
-use Rattle.std.specs.Prelude.{◌≡◌, ◌&&◌, if◌then◌else◌, ℕ, Bool, false, not, nat_eq, nat_lt, List}
-use Rattle.std.specs.Prelude.{[], ◌∷◌, find, Option, Some, None}
+use Rattle.std.specs.Prelude.{◌≡◌, ◌&&◌, ◌*◌, if◌then◌else◌, ℕ, Bool, false, not, nat_eq, nat_lt}
+use Rattle.std.specs.Prelude.{List, [], ◌∷◌, find, Option, Some, None}
 use Rattle.std.specs.List.{list_all, list_any}
 use Rattle.std.specs.Option.{is_some}
+use Rattle.sector_images.specs.Formats.{row}
 use Rattle.flux_engine.specs.declared.plan.Clocks.TheVariants.{FollowingAlone}
 use Rattle.dump_reading.specs.declared.looks.Looks.TheVariants.{WhereGood}
 use Rattle.dump_reading.specs.Files.{ShelfNow}
@@ -59,6 +60,10 @@ abbrev pub whole_in : Option DumpTotals → ℕ
 whole_in None = 0
 whole_in (Some totals) = totals.whole
 
+-- how many bytes the good ones have
+abbrev pub bytes_in : Finding → ℕ
+bytes_in f = good_in f.totals * (row f.candidate.format).sector_size
+
 -- how many files failed
 abbrev pub lost_in : Option DumpTotals → ℕ
 lost_in None = 0
@@ -80,17 +85,18 @@ has_good f = nat_lt 0 (good_in f.totals)
 abbrev pub has_failed : Finding → Bool
 has_failed f = nat_lt 0 (lost_in f.totals)
 
--- more is good; or as much, and fewer others have data; or that too, and the disk has fewer sectors
-abbrev pub is_over : (good whole sectors good' whole' sectors' : ℕ) → Bool
-is_over good whole sectors good' whole' sectors' =
-    if nat_eq good good'
+-- more bytes are good; or as many, and fewer others have data; or that too, and the disk has fewer
+-- sectors
+abbrev pub is_over : (bytes whole sectors bytes' whole' sectors' : ℕ) → Bool
+is_over bytes whole sectors bytes' whole' sectors' =
+    if nat_eq bytes bytes'
     then (if nat_eq whole whole' then nat_lt sectors sectors' else nat_lt whole whole')
-    else nat_lt good' good
+    else nat_lt bytes' bytes
 
 abbrev pub beats : Finding → Finding → Bool
 beats f g =
-    is_over (good_in f.totals) (whole_in f.totals) (sectors_in f.totals) (good_in g.totals)
-    (whole_in g.totals) (sectors_in g.totals)
+    is_over (bytes_in f) (whole_in f.totals) (sectors_in f.totals) (bytes_in g) (whole_in g.totals)
+    (sectors_in g.totals)
 
 -- a sector is good, and none of these is better
 abbrev pub is_unbeaten : List Finding → Finding → Bool

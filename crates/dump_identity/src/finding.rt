@@ -1,11 +1,13 @@
 //! What reading a dump as a disk comes to.
 
 ghost use Rattle.std.specs.Prelude.{◌≡◌};
-ghost use Rattle.dump_identity.specs.Findings.{beats, good_in, has_failed, has_files, has_good, is_complete, lost_in};
-ghost use Rattle.dump_identity.specs.Findings.{sectors_in, whole_in};
+ghost use Rattle.dump_identity.specs.Findings.{beats, bytes_in, good_in, has_failed, has_files, has_good, is_complete};
+ghost use Rattle.dump_identity.specs.Findings.{lost_in, sectors_in, whole_in};
 
 use crate::candidate::Candidate;
+use disk_recordings::sectors_of;
 use dump_reading::DumpTotals;
+use sector_images::{track_id, tracks_keep_bounds};
 
 /// What reading a dump as a candidate's disk comes to, by the clock that follows the drive alone.
 #[derive(Clone, Copy, Debug, PartialEq, Eq)]
@@ -37,13 +39,13 @@ impl Finding {
         self.lost() > 0
     }
 
-    /// Whether the disk explains the dump better than another: it has more good sectors; or as many, and fewer other
-    /// names have data; or that too, and it has fewer sectors.
+    /// Whether the disk explains the dump better than another: its good sectors have more bytes; or as many, and fewer
+    /// other names have data; or that too, and it has fewer sectors.
     pub fn beats(&self, other: &Finding) -> bool
         ensures { result ≡ beats self.now other.now }
     {
-        if self.good() != other.good() {
-            return self.good() > other.good();
+        if self.bytes() != other.bytes() {
+            return self.bytes() > other.bytes();
         }
         if self.whole() != other.whole() {
             return self.whole() < other.whole();
@@ -69,6 +71,16 @@ impl Finding {
             Some(totals) => totals.sectors.good,
             None => 0,
         }
+    }
+
+    /// How many bytes the good sectors have.
+    fn bytes(&self) -> u64
+        ensures { result ≡ bytes_in self.now }
+    {
+        tracks_keep_bounds();
+        let format = self.candidate.format;
+        let sectors = sectors_of(format, track_id(format, 0));
+        u64::from(self.good()) * u64::from(sectors.size)
     }
 
     /// How many sectors the disk has.

@@ -30,8 +30,8 @@ use track_shelf::Shelf;
 /// with one step for each cylinder, and for those of up to 42 cylinders then with two: as `read_dumps` reads it, by
 /// the clock that follows the drive alone. The files beside the disk's tracks are looked at where a sector is good.
 /// Each disk that has a good sector gets a line as soon as it was read, which also tells how many files failed, and
-/// the last line names the best: the one with most good sectors, of those the one with fewest other names that have
-/// whole data, of those the one with fewest sectors, and of those the first. A file that fails is passed over, each
+/// the last line names the best: the one with most bytes in good sectors, of those the one with fewest other names that
+/// have whole data, of those the one with fewest sectors, and of those the first. A file that fails is passed over, each
 /// time. No answer is for want of memory.
 ///
 /// A dump that has no file of any track is refused, and nothing is written. After a fault of the sink nothing more is

@@ -86,8 +86,8 @@ const IDENTIFY: Texts<&str> = Texts {
     about: "
 Reads a dump as a disk of each format that has a name, and of those of up to 42 cylinders also with --double-step. Each
 that has a good sector gets a line, in words that can stand behind read: how many sectors are good, and how many other names
-have data. The last line names the best: most good sectors, then fewest others, then fewest sectors. The exit code is 0 where
-that is all of the dump.
+have data. The last line names the best: most bytes in good sectors, then fewest others, then fewest sectors. The exit code is
+0 where that is all of the dump.
 
 Example:
    flux identify dump
