@@ -1,0 +1,4 @@
+pub mod Sets
+pub mod Counting
+pub mod Spans
+pub mod Alone

@@ -1,0 +1,7 @@
+pub mod Names
+pub mod Told
+pub mod Named
+pub mod Disks
+pub mod Laws
+pub mod inside
+pub mod lemmas

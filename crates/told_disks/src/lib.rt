@@ -1,0 +1,13 @@
+//! Which disks by their numbers the headers of some tracks tell: of each track the sector numbers of its own names that
+//! have whole data. No flux, no file: what is here is arithmetic of finite sets.
+#![tactic(auto)]
+
+mod disks;
+mod laws;
+mod name_set;
+mod named;
+mod told;
+
+pub use disks::{NumberedDisk, push_disks};
+pub use laws::told_disks_are_one;
+pub use name_set::NameSet;
