@@ -1,4 +1,4 @@
-ghost use Rattle.std.specs.Prelude.{◌≡◌, ◌+◌, ◌<◌, ◌≤◌, List, [], length, IfOk};
+ghost use Rattle.std.specs.Prelude.{◌≡◌, ◌+◌, ◌*◌, ◌<◌, ◌≤◌, List, [], length, IfOk};
 ghost use Rattle.std.specs.Option.{option_copied};
 ghost use Rattle.turn_merge.specs.Readings.{NotedReading, good_reading, bad_reading, verdict as verdict_over, agreed};
 ghost use Rattle.turn_merge.specs.Book.{IsKnown, StandsFor, AppendsReading, HasShape, SameShape, MOST_NOTES};
@@ -17,7 +17,7 @@ pub struct Book {
     /// How many sectors are known, at most as many as `new` made room for.
     sectors: u8,
     size: u16,
-    /// Readings noted since `new` or the last `clear`.
+    /// Readings noted since `new`, `begin` or the last `clear`.
     notes: u64,
     verdicts: Vec<Verdict>,
     /// `size` bytes for each sector: those of its first good reading, once there is one.
@@ -69,6 +69,24 @@ impl Book {
         self.verdicts.fill(Verdict::Missing);
         self.sectors = sectors;
         self.notes = 0;
+    }
+
+    /// Forgets all readings, and begins anew for sectors of another track: from now on it has room for `sectors` sectors
+    /// of `size` bytes, the first of which has the number `first_sector`, and no more. There was room for as many sectors
+    /// and as many bytes. No memory is taken.
+    pub fn begin(&mut self, first_sector: u8, sectors: u8, size: u16)
+        requires sectors { sectors ≤ self.old.most }
+        requires bytes { sectors * size ≤ self.old.most * self.old.size }
+        ensures empty { StandsFor self.new [] }
+        ensures shape { HasShape self.new first_sector sectors size sectors }
+    {
+        self.verdicts.truncate(usize::from(sectors));
+        self.bytes
+            .truncate(usize::from(sectors) * usize::from(size));
+        self.first_sector = first_sector;
+        self.sectors = self.sectors.min(sectors);
+        self.size = size;
+        self.clear(sectors);
     }
 
     /// Notes a reading whose data match their check value.
