@@ -12,7 +12,7 @@ use Rattle.sector_images.specs.declared.format.Format.TheVariants.{Mac400, Mac80
 use Rattle.flux_help.specs.Verbs.{verb_texts, verbs}
 use Rattle.flux_help.specs.declared.page.Page.{Page}
 use Rattle.flux_help.specs.declared.page.Page.TheVariants.{Help, Version, About}
-use Rattle.flux_help.specs.declared.texts.TheConstants.{VERSION, INTRO, HEADING, CODES}
+use Rattle.flux_help.specs.declared.texts.TheConstants.{NUMBER, VERSION, INTRO, HEADING, CODES}
 use Rattle.flux_help.specs.declared.texts.TheConstants.{IBM_3740_DISK, IBM_360_DISK, IBM_720_DISK}
 use Rattle.flux_help.specs.declared.texts.TheConstants.{IBM_1440_DISK, AMIGA_DISK, AMIGA_HD_DISK}
 use Rattle.flux_help.specs.declared.texts.TheConstants.{C1541_DISK, C1541_FORTY_DISK, C1571_DISK}
@@ -68,6 +68,10 @@ help_text = INTRO.now ++ (verbs_text ++ (HEADING.now ++ (formats_text ++ CODES.n
 -- what is said of one command
 abbrev pub about_text : Verb → List ℕ
 about_text verb = (verb_texts verb).usage.now ++ (verb_texts verb).about.now
+
+-- the number of the version
+abbrev pub number_text : List ℕ
+number_text = NUMBER.now
 
 abbrev pub page_text : Page → List ℕ
 page_text Help = help_text

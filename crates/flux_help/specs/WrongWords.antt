@@ -15,6 +15,7 @@ use Rattle.flux_help.specs.Verbs.{asks_format, is_own, verb_of, verb_texts}
 use Rattle.flux_help.specs.WrittenNumbers.{written_numbers}
 use Rattle.flux_help.specs.declared.unfit.Unfit.{Unfit}
 use Rattle.flux_help.specs.declared.verb.Verb.{Verb}
+use Rattle.flux_help.specs.declared.verb.Verb.TheVariants.{Write}
 
 -- what follows the first word where it is one of those that the usage line does
 -- not name; else the usage line
@@ -75,6 +76,17 @@ abbrev pub told_by : Option Verb → Option (List ℕ) → List ℕ
 told_by verb None = usage_by verb
 told_by verb (Some word) = no_format_text verb word (ending_behind verb word)
 
+-- the usage line does not name what these words ask, though it names their command
+abbrev pub names_folder : Option Verb → (others : List (List ℕ)) → Bool
+names_folder (Some Write) (option ∷ others) = bytes_eq option (codes "--folder")
+names_folder _ _ = false
+
+-- by the words behind the command's
+abbrev pub told_behind : Option Verb → (others : List (List ℕ)) → List ℕ
+told_behind verb others =
+    if names_folder verb others then (verb_texts Write).usage.now
+    else told_by verb (format_word others)
+
 abbrev pub wrong_text : List (List ℕ) → List ℕ
 wrong_text [] = usage_text
-wrong_text (first ∷ others) = told_by (verb_of first) (format_word others)
+wrong_text (first ∷ others) = told_behind (verb_of first) others

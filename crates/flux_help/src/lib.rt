@@ -13,6 +13,7 @@ mod wrong_words;
 
 pub use nearest::nearest_format;
 pub use page::Page;
+pub use texts::version_number;
 pub use unfit::unfit_is_no_disk;
 pub use verb::Verb;
 pub use writing::write_page;

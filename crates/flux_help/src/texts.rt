@@ -1,5 +1,5 @@
 ghost use Rattle.std.specs.Prelude.{◌≡◌, ◌≤◌, length};
-ghost use Rattle.flux_help.specs.Pages.{disk_name, disk_text, format_text};
+ghost use Rattle.flux_help.specs.Pages.{disk_name, disk_text, format_text, number_text};
 
 use sector_images::{Format, image_size};
 use sector_report::{Line, put, put_named};
@@ -13,10 +13,21 @@ commit unknown: built by hand, not of a package
 proved in Rattle, logic dac8208d650f15bf
 ";
 
+/// The number of the version, as it stands in its first line.
+const NUMBER: &str = "0.4.0";
+
+/// The number of the version.
+pub fn version_number() -> &'static str
+    ensures number { result.now ≡ number_text }
+    ensures short { length result.now ≤ 64 }
+{
+    NUMBER
+}
+
 /// What the program is.
 pub(crate) const INTRO: &str = "\
 flux reads KryoFlux stream captures of floppy disks and writes images back as streams.
-It reads standard input or folders and writes standard output; reports and refusals go to standard error.
+It reads standard input or folders and writes standard output or folders; reports and refusals go to standard error.
 
 Commands:
 ";

@@ -221,14 +221,15 @@ Example:
 
 const WRITE: Texts<&str> = Texts {
     word: "write",
-    line: "   write FORMAT                 an image to the streams of its tracks\n",
-    usage: "usage: flux write FORMAT\n",
+    line: "   write FORMAT                 an image to the streams of its tracks, joined or as files\n",
+    usage: "usage: flux write [--folder FOLDER] FORMAT\n",
     about: "
 Reads an image and writes one stream for each track, in the order in which decode reads them. Bytes of another number than
-an image has are refused, and nothing is written.
+an image has are refused, and nothing is written. With --folder each stream is a file trackCC.H.raw there, as other programs
+take it, and the folder is made; where one of the files is there already, none is written.
 
 Example:
-   flux write amiga < disk.adf > disk.raw
+   flux write --folder dump amiga < disk.adf
 ",
 };
 

@@ -8,7 +8,8 @@ ghost use Rattle.sector_images.specs.Formats.{formats};
 ghost use Rattle.flux_help.specs.Meanings.{no_format_ending};
 ghost use Rattle.flux_help.specs.Nearest.{nearest_text};
 ghost use Rattle.flux_help.specs.WrongWords.{ending_behind, ending_of, format_word, has_format_word, is_named};
-ghost use Rattle.flux_help.specs.WrongWords.{is_option, told_by, usage_by, wants_format, wrong_text};
+ghost use Rattle.flux_help.specs.WrongWords.{is_option, names_folder, told_behind, told_by, usage_by, wants_format};
+ghost use Rattle.flux_help.specs.WrongWords.{wrong_text};
 
 use crate::meanings::meaning_of;
 use crate::nearest::nearest_format;
@@ -30,6 +31,30 @@ pub fn write_wrong_words<N: Sink>(words: &[Word], notes: &mut N) -> Result<(), F
 
 /// Writes what is told of the words behind a command's.
 fn write_behind<N: Sink>(verb: Option<Verb>, words: &[Word], notes: &mut N) -> Result<(), Failed>
+    ensures { Puts (sink_at N.Sink notes.old) (sink_at N.Sink notes.new) (told_behind verb words.now) result }
+{
+    if names_folder(verb, words) {
+        write_whole(notes, Verb::Write.texts().usage.as_bytes())
+    } else {
+        write_at_format(verb, words, notes)
+    }
+}
+
+/// Whether the usage line does not name what these words ask, though it names their command.
+fn names_folder(verb: Option<Verb>, words: &[Word]) -> bool
+    ensures { result ≡ names_folder verb words.now }
+{
+    match verb {
+        Some(Verb::Write) => match words {
+            [option, ..] => option.bytes() == b"--folder".as_slice(),
+            [] => false,
+        },
+        _ => false,
+    }
+}
+
+/// Writes what is told by the word in a format's place.
+fn write_at_format<N: Sink>(verb: Option<Verb>, words: &[Word], notes: &mut N) -> Result<(), Failed>
     ensures { Puts (sink_at N.Sink notes.old) (sink_at N.Sink notes.new) (told_by verb (format_word words.now)) result }
 {
     match format_word(words) {
