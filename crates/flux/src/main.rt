@@ -2,7 +2,7 @@
 #![tactic(auto)]
 
 use flux_base::{Status, Word};
-use flux_cli::{StdShelf, StdSink, StdSource, run};
+use flux_cli::{StdMaker, StdShelf, StdSink, StdSource, run};
 use std::env;
 use std::process::ExitCode;
 
@@ -23,6 +23,7 @@ fn main(rt: HostRuntime) -> ExitCode {
     let mut image = StdSink::new(rt.stdout());
     let mut notes = StdSink::new(rt.stderr());
     let mut shelf = StdShelf::new(&rt);
+    let mut maker = StdMaker::new(&rt);
     let status = run(
         rt.alloc(),
         &words,
@@ -30,6 +31,7 @@ fn main(rt: HostRuntime) -> ExitCode {
         &mut image,
         &mut notes,
         &mut shelf,
+        &mut maker,
     );
     ExitCode::from(status.code())
 }

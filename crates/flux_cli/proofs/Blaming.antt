@@ -1,16 +1,17 @@
 -- The counts of all objects of a run, from those of the objects that a command has.
-use Rattle.std.specs.Prelude.{if◌then◌else◌, Bool, true, false}
-use Rattle.std.proofs.Common.{◌≡◌, refl, subst, arith}
+use Rattle.std.specs.Prelude.{if◌then◌else◌, ◌||◌, Bool, true, false}
+use Rattle.std.proofs.Common.{◌≡◌, refl, subst, sym, arith}
 use Rattle.flux_base.specs.Blames.{Blame, CountsBy, OutsideCounts, no_counts, no_one, the_source, the_image, the_notes, three_counts}
-use Rattle.flux_base.specs.Counts.{FaultCounts}
+use Rattle.flux_base.specs.Counts.{Counts, FaultCounts}
 use Rattle.flux_base.specs.declared.status.Status.{Status}
 use Rattle.flux_base.specs.declared.status.Status.TheVariants.{AllGood, NotAllGood, Refused, Usage, ReadFault, ImageFault, NotesFault, Memory, ShelfFault}
+use Rattle.flux_base.specs.lemmas.Blaming.{CountsBy-none}
 use Rattle.flux_base.specs.lemmas.Counting.{Counts-none}
 use Rattle.flux_cli.proofs.Often.{many-none}
 use Rattle.flux_cli.specs.Runs.{Does}
 use Rattle.flux_cli.specs.Work.{Work}
 use Rattle.flux_cli.specs.World.{Outside}
-use Rattle.flux_cli.specs.Blamed.{CountsOfRun, CountsOfShelf, CountsOnShelf, all_counts, shelf_blame, source_blame}
+use Rattle.flux_cli.specs.Blamed.{CountsOfFiles, CountsOfNotes, CountsOfRun, CountsOfShelf, CountsOnShelf, all_counts, is_of_files, shelf_blame, source_blame, tells_unmade}
 
 -- a call that has no notes
 pub CountsBy-noteless : {source source' image image' : FaultCounts} (notes : FaultCounts) (blame : Blame)
@@ -45,6 +46,21 @@ other_blames NotesFault unread other counts = counts
 other_blames Memory unread other counts = counts
 other_blames ShelfFault unread other counts = absurd (other refl)
 
+-- a status that tells no fault of files
+no_files : (status : Status) → (status ≡ ShelfFault → ⊥) → is_of_files status ≡ false
+no_files AllGood other = refl
+no_files NotAllGood other = refl
+no_files Refused other = refl
+no_files Usage other = refl
+no_files ReadFault other = refl
+no_files ImageFault other = refl
+no_files NotesFault other = refl
+no_files Memory other = refl
+no_files ShelfFault other = absurd (other refl)
+
+uncalled : (status : Status) → (status ≡ ShelfFault → ⊥) → (counts : FaultCounts) → Counts (is_of_files status) counts counts
+uncalled status other counts = subst (λ (fails : Bool). Counts fails counts counts) (sym (no_files status other)) (Counts-none counts)
+
 -- a shelf that is not touched, where no fault of it is told
 still_shelf : (dumps : Bool) (status : Status) → (status ≡ ShelfFault → ⊥) → (shelf : FaultCounts) → CountsOfShelf dumps status shelf shelf
 still_shelf true AllGood other shelf = (0, refl, many-none shelf)
@@ -56,40 +72,47 @@ still_shelf true ImageFault other shelf = (0, tt, many-none shelf)
 still_shelf true NotesFault other shelf = (0, tt, many-none shelf)
 still_shelf true Memory other shelf = (0, refl, many-none shelf)
 still_shelf true ShelfFault other shelf = absurd (other refl)
-still_shelf false AllGood other shelf = Counts-none shelf
-still_shelf false NotAllGood other shelf = Counts-none shelf
-still_shelf false Refused other shelf = Counts-none shelf
-still_shelf false Usage other shelf = Counts-none shelf
-still_shelf false ReadFault other shelf = Counts-none shelf
-still_shelf false ImageFault other shelf = Counts-none shelf
-still_shelf false NotesFault other shelf = Counts-none shelf
-still_shelf false Memory other shelf = Counts-none shelf
-still_shelf false ShelfFault other shelf = absurd (other refl)
+still_shelf false status other shelf = uncalled status other shelf
+
+-- what makes files is not touched either
+still_files : (dumps makes : Bool) (status : Status) → (status ≡ ShelfFault → ⊥) → (shelf maker : FaultCounts) → CountsOfFiles dumps makes status shelf shelf maker maker
+still_files dumps false status other shelf maker = (still_shelf dumps status other shelf, Counts-none maker)
+still_files dumps true status other shelf maker = (Counts-none shelf, uncalled status other maker)
+
+-- and no line tells of it
+untold_files : (makes fails : Bool) (status : Status) → (status ≡ ShelfFault → ⊥) → (notes notes' : FaultCounts) → Counts fails notes notes'
+    → CountsOfNotes (tells_unmade makes status || false) fails notes notes'
+untold_files false fails status other notes notes' counts = counts
+untold_files true fails status other notes notes' counts = subst (λ (told : Bool). CountsOfNotes (told || false) fails notes notes') (sym (no_files status other)) counts
+
+module _ {source source' shelf image image' notes notes' maker : FaultCounts} where
+  -- a run over the source, which touches neither the shelf nor what makes files
+  pub run-of-source : (dumps makes : Bool) (status : Status) → (status ≡ ShelfFault → ⊥) → CountsBy (source_blame status) (three_counts source image notes) (three_counts source' image' notes')
+      → CountsOfRun dumps makes false status (all_counts source shelf image notes maker) (all_counts source' shelf image' notes' maker)
+  run-of-source dumps makes status other c =
+      record { source = c.source; files = still_files dumps makes status other shelf maker; image = c.image; notes = untold_files makes _ status other notes notes' c.notes }
+
+memory-other : Memory ≡ ShelfFault → ⊥
+memory-other same = cc
 
 -- there was no memory to begin
-pub memoryless : (dumps : Bool) (source shelf image notes : FaultCounts) → CountsOfRun dumps false Memory (all_counts source shelf image notes) (all_counts source shelf image notes)
-memoryless true source shelf image notes = record { source = Counts-none source; shelf = (0, refl, many-none shelf); image = Counts-none image; notes = Counts-none notes }
-memoryless false source shelf image notes = record { source = Counts-none source; shelf = Counts-none shelf; image = Counts-none image; notes = Counts-none notes }
+pub memoryless : (dumps makes : Bool) (source shelf image notes maker : FaultCounts)
+    → CountsOfRun dumps makes false Memory (all_counts source shelf image notes maker) (all_counts source shelf image notes maker)
+memoryless dumps makes source shelf image notes maker = run-of-source dumps makes Memory memory-other (CountsBy-none (three_counts source image notes))
 
-module _ {source source' shelf image image' notes notes' : FaultCounts} where
-  -- a run over the source, which does not touch the shelf
-  pub run-of-source : (dumps : Bool) (status : Status) → (status ≡ ShelfFault → ⊥) → CountsBy (source_blame status) (three_counts source image notes) (three_counts source' image' notes')
-      → CountsOfRun dumps false status (all_counts source shelf image notes) (all_counts source' shelf image' notes')
-  run-of-source dumps status other c = record { source = c.source; shelf = still_shelf dumps status other shelf; image = c.image; notes = c.notes }
-
-module _ {source shelf shelf' image image' notes notes' : FaultCounts} where
-  -- one over the shelf, which does not touch the source
+module _ {source shelf shelf' image image' notes notes' maker : FaultCounts} where
+  -- one over the shelf, which touches neither the source nor what makes files
   pub run-of-shelf : (dumps : Bool) (status : Status) → (status ≡ ReadFault → ⊥) → CountsOnShelf dumps status (three_counts shelf image notes) (three_counts shelf' image' notes')
-      → CountsOfRun dumps false status (all_counts source shelf image notes) (all_counts source shelf' image' notes')
-  run-of-shelf dumps AllGood other c = record { source = Counts-none source; shelf = c.shelf; image = c.image; notes = c.notes }
-  run-of-shelf dumps NotAllGood other c = record { source = Counts-none source; shelf = c.shelf; image = c.image; notes = c.notes }
-  run-of-shelf dumps Refused other c = record { source = Counts-none source; shelf = c.shelf; image = c.image; notes = c.notes }
-  run-of-shelf dumps Usage other c = record { source = Counts-none source; shelf = c.shelf; image = c.image; notes = c.notes }
+      → CountsOfRun dumps false false status (all_counts source shelf image notes maker) (all_counts source shelf' image' notes' maker)
+  run-of-shelf dumps AllGood other c = record { source = Counts-none source; files = (c.shelf, Counts-none maker); image = c.image; notes = c.notes }
+  run-of-shelf dumps NotAllGood other c = record { source = Counts-none source; files = (c.shelf, Counts-none maker); image = c.image; notes = c.notes }
+  run-of-shelf dumps Refused other c = record { source = Counts-none source; files = (c.shelf, Counts-none maker); image = c.image; notes = c.notes }
+  run-of-shelf dumps Usage other c = record { source = Counts-none source; files = (c.shelf, Counts-none maker); image = c.image; notes = c.notes }
   run-of-shelf dumps ReadFault other c = absurd (other refl)
-  run-of-shelf dumps ImageFault other c = record { source = Counts-none source; shelf = c.shelf; image = c.image; notes = c.notes }
-  run-of-shelf dumps NotesFault other c = record { source = Counts-none source; shelf = c.shelf; image = c.image; notes = c.notes }
-  run-of-shelf dumps Memory other c = record { source = Counts-none source; shelf = c.shelf; image = c.image; notes = c.notes }
-  run-of-shelf dumps ShelfFault other c = record { source = Counts-none source; shelf = c.shelf; image = c.image; notes = c.notes }
+  run-of-shelf dumps ImageFault other c = record { source = Counts-none source; files = (c.shelf, Counts-none maker); image = c.image; notes = c.notes }
+  run-of-shelf dumps NotesFault other c = record { source = Counts-none source; files = (c.shelf, Counts-none maker); image = c.image; notes = c.notes }
+  run-of-shelf dumps Memory other c = record { source = Counts-none source; files = (c.shelf, Counts-none maker); image = c.image; notes = c.notes }
+  run-of-shelf dumps ShelfFault other c = record { source = Counts-none source; files = (c.shelf, Counts-none maker); image = c.image; notes = c.notes }
 
 -- over the source no fault is the shelf's
 pub no-shelf : {A V W N : Type 0} {work : Work V} {status : Status} {before after : Outside A V W N} → Does work status before after → (work.ends ShelfFault → ⊥)

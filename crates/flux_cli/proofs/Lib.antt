@@ -23,3 +23,5 @@ pub mod EndingLaws
 pub mod Ended
 pub mod Telling
 pub mod AskedWords
+pub mod FilesTold
+pub mod Making

@@ -12,7 +12,7 @@ use Rattle.kryo_stream.specs.Reads.{SourceMoment}
 use Rattle.sector_images.specs.declared.format.Format.{Format}
 use Rattle.track_shelf.specs.Files.{File, LeavesWanted, NamesMissing, first_missing, joined}
 use Rattle.track_shelf.specs.Names.{missing_text}
-use Rattle.flux_words.specs.Asked.{Asked, the_turns, some_streams, a_folder, some_dumps, a_sector, an_identity, told_files, written_streams, a_trial, a_g64_file, an_image_of_g64, a_page}
+use Rattle.flux_words.specs.Asked.{Asked, the_turns, some_streams, a_folder, some_dumps, a_sector, an_identity, told_files, written_streams, written_files, a_trial, a_g64_file, an_image_of_g64, a_page}
 use Rattle.flux_words.specs.G64Disks.{format_of}
 use Rattle.flux_words.specs.declared.commands.Output.{Output}
 use Rattle.flux_words.specs.declared.commands.Output.TheVariants.{ImageAndReport, ReportAlone, Picture}
@@ -173,7 +173,7 @@ of_shown laws x o plan ImageAndReport format asked given = of_streams laws x o p
 of_shown laws x o plan ReportAlone format asked given = of_streams laws x o plan ReportAlone format asked given.0 given.1 given.2
 of_shown laws x o plan Picture format asked given = tt
 
-module _ (laws : Laws) (dump_laws : DumpLaws) {S W N H : Type 0} (status : Status) (before after : World S W N H) where
+module _ (laws : Laws) (dump_laws : DumpLaws) {S W N H M : Type 0} (status : Status) (before after : World S W N H M) where
   -- what a command's row says is as expected
   expected : (asked : Asked) → Keeps asked → DoesRow (row_of asked) status before after → Expected asked status before after
   expected (some_streams asked) keeps did =
@@ -193,6 +193,7 @@ module _ (laws : Laws) (dump_laws : DumpLaws) {S W N H : Type 0} (status : Statu
   expected (an_identity dump) keeps did = tt
   expected (told_files dump) keeps did = tt
   expected (written_streams format) keeps did = tt
+  expected (written_files format folder) keeps did = tt
   expected (a_g64_file disk) keeps did = tt
   expected (a_page page) keeps did = tt
 

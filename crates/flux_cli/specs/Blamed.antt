@@ -1,5 +1,5 @@
 -- Whom a status blames: of which object of the outside it tells a fault.
-use Rattle.std.specs.Prelude.{◌≡◌, ◌<◌, ℕ, Bool, true, false, List, [], ◌∷◌, Option, Some}
+use Rattle.std.specs.Prelude.{◌≡◌, ◌<◌, ◌||◌, ℕ, Bool, true, false, List, [], ◌∷◌, Option, Some}
 use Rattle.dump_reading.specs.Files.{CountsMany}
 use Rattle.flux_base.specs.Blames.{Blame, OutsideCounts, is_image, is_notes, is_source, no_one}
 use Rattle.flux_base.specs.Blames.{the_source, the_image, the_notes}
@@ -9,8 +9,9 @@ use Rattle.flux_base.specs.declared.status.Status.TheVariants.{ReadFault, ImageF
 use Rattle.flux_base.specs.declared.status.Status.TheVariants.{ShelfFault}
 use Rattle.flux_help.specs.Verbs.{verb_of}
 use Rattle.flux_help.specs.declared.verb.Verb.{Verb}
-use Rattle.flux_help.specs.declared.verb.Verb.TheVariants.{Identify, Info, Read, Show}
+use Rattle.flux_help.specs.declared.verb.Verb.TheVariants.{Identify, Info, Read, Show, Write}
 use Rattle.flux_words.specs.Asked.{Asked, some_dumps, a_sector, an_identity, told_files}
+use Rattle.flux_words.specs.Asked.{written_files}
 use Rattle.flux_cli.specs.World.{World}
 
 abbrev pub source_blame : Status → Blame
@@ -45,6 +46,20 @@ abbrev pub reads_dumps : (words : List (List ℕ)) → Bool
 reads_dumps [] = false
 reads_dumps (first ∷ others) = verb_over_dumps (verb_of first)
 
+-- files are made for some of it, which the verb tells with what stands behind it: of the words of
+-- `write` a format's stands alone where none are
+abbrev pub asks_files : Asked → Bool
+asks_files (written_files format folder) = true
+asks_files _ = false
+
+abbrev pub verb_asks_files : Option Verb → (others : List (List ℕ)) → Bool
+verb_asks_files (Some Write) (option ∷ folder ∷ others) = true
+verb_asks_files _ _ = false
+
+abbrev pub makes_files : (words : List (List ℕ)) → Bool
+makes_files [] = false
+makes_files (first ∷ others) = verb_asks_files (verb_of first) others
+
 -- how often files failed under such words, by the status: where it tells so, or a
 -- fault of a sink, and else never
 abbrev pub FailsOften : Status → (often : ℕ) → Type 0
@@ -53,13 +68,26 @@ FailsOften ImageFault often = Unit {0}
 FailsOften NotesFault often = Unit {0}
 FailsOften _ often = often ≡ 0
 
+-- a fault of files is told by the status
+abbrev pub is_of_files : Status → Bool
+is_of_files status = is_source (shelf_blame status)
+
 -- The shelf failed once where its fault is told, in the last call of all that
 -- could, and else never. Under words that read dumps files that fail are passed
 -- over: it failed as often as they did.
 abbrev pub CountsOfShelf : (dumps : Bool) → Status → (before after : FaultCounts) → Type 0
-CountsOfShelf false status before after = Counts (is_source (shelf_blame status)) before after
+CountsOfShelf false status before after = Counts (is_of_files status) before after
 CountsOfShelf true status before after =
     (often : ℕ) × FailsOften status often × CountsMany often before after
+
+-- It is what makes files that failed where some are asked for, and then the shelf was not called;
+-- else the shelf did so, and nothing was made.
+abbrev pub CountsOfFiles : (dumps makes : Bool) → Status
+    → (shelf shelf' maker maker' : FaultCounts) → Type 0
+CountsOfFiles dumps false status shelf shelf' maker maker' =
+    CountsOfShelf dumps status shelf shelf' × Counts false maker maker'
+CountsOfFiles dumps true status shelf shelf' maker maker' =
+    Counts false shelf shelf' × Counts (is_of_files status) maker maker'
 
 -- over the shelf, which stands in the source's place
 pub record CountsOnShelf (dumps : Bool) (status : Status)
@@ -74,16 +102,22 @@ pub record AllCounts : Type 0 where
   pub shelf : FaultCounts
   pub image : FaultCounts
   pub notes : FaultCounts
+  pub maker : FaultCounts
 
-abbrev pub all_counts : (source shelf image notes : FaultCounts) → AllCounts
-all_counts source shelf image notes =
-    record { source = source; shelf = shelf; image = image; notes = notes }
+abbrev pub all_counts : (source shelf image notes maker : FaultCounts) → AllCounts
+all_counts source shelf image notes maker =
+    record { source = source; shelf = shelf; image = image; notes = notes; maker = maker }
 
-abbrev pub world_counts : {S W N H : Type 0} → World S W N H → AllCounts
-world_counts now =
-    all_counts now.source.counts now.shelf.counts now.image.counts now.notes.counts
+abbrev pub world_counts : {S W N H M : Type 0} → World S W N H M → AllCounts
+world_counts now = all_counts now.source.counts now.shelf.counts now.image.counts now.notes.counts
+    now.maker.counts
 
--- The notes behind a fault of the output that is told: they failed in its line, or
+-- a fault of what makes files is told in a line too
+abbrev pub tells_unmade : (makes : Bool) → Status → Bool
+tells_unmade false status = false
+tells_unmade true status = is_of_files status
+
+-- The notes behind a fault that is told in a line beside the status: they failed in that line, or
 -- never. Else as the status says.
 abbrev pub CountsOfNotes : (told fails : Bool) → (before after : FaultCounts) → Type 0
 CountsOfNotes false fails before after = Counts fails before after
@@ -91,11 +125,12 @@ CountsOfNotes true fails before after = (cut : Bool) × Counts cut before after
 
 -- A run failed for the sake of the object whose fault its status tells, which failed once, in the
 -- last call that could, and no other one did: so after a fault nothing more was called that could
--- fail, and a run that finished had none. Where a fault of the output is told, the notes were
--- called behind it, for one line alone, and may have failed once too.
-pub record CountsOfRun (dumps told : Bool) (status : Status)
+-- fail, and a run that finished had none. Where a fault of the output is told, or one of what makes
+-- files, the notes were called behind it, for one line alone, and may have failed once too.
+pub record CountsOfRun (dumps makes told : Bool) (status : Status)
     (before after : AllCounts) : Type 0 where
   pub source : Counts (is_source (source_blame status)) before.source after.source
-  pub shelf : CountsOfShelf dumps status before.shelf after.shelf
+  pub files : CountsOfFiles dumps makes status before.shelf after.shelf before.maker after.maker
   pub image : Counts (is_image (source_blame status)) before.image after.image
-  pub notes : CountsOfNotes told (is_notes (source_blame status)) before.notes after.notes
+  pub notes : CountsOfNotes (tells_unmade makes status || told) (is_notes (source_blame status))
+      before.notes after.notes

@@ -20,6 +20,9 @@ pub mod SectorRuns
 pub mod IdentityRuns
 pub mod InfoRuns
 pub mod Endings
+pub mod MakingWork
+pub mod FilesTold
+pub mod FilesWork
 pub mod ShelfRuns
 pub mod OutputTold
 pub mod ReadHeadline

@@ -38,13 +38,13 @@ ToldIf true before after =
 ToldIf false before after = after ≡ before
 
 -- the same objects with other notes
-abbrev pub with_notes : {S W N H : Type 0} → Moment N → World S W N H → World S W N H
+abbrev pub with_notes : {S W N H M : Type 0} → Moment N → World S W N H M → World S W N H M
 with_notes notes now = record now { notes = notes }
 
 -- What a run with these words did: all that the words ask for, by the notes that it left, which had
 -- failed no less often than before; and then the line, where one is told.
-pub record RanAndTold {S W N H : Type 0} (words : List (List ℕ)) (status : Status)
-    (before after : World S W N H) : Type 0 where
+pub record RanAndTold {S W N H M : Type 0} (words : List (List ℕ)) (status : Status)
+    (before after : World S W N H M) : Type 0 where
   pub notes : Moment N
   pub ran : Ran words status before (with_notes notes after)
   pub later : before.notes.counts.faults ≤ notes.counts.faults

@@ -55,7 +55,8 @@ OfFolder format folder start now o = (files : List File) → start.told.files �
     → OfStreams decoding ImageAndReport format (joined files folder format) o
 
 -- Or a counted fault cut it, or there was no memory to begin.
-abbrev pub Expected : {S W N H : Type 0} → Asked → Status → (before after : World S W N H) → Type 0
+abbrev pub Expected : {S W N H M : Type 0} → Asked → Status → (before after : World S W N H M)
+    → Type 0
 -- From any streams that carry an image's written tracks, disturbed within the bounds, `decode`
 -- writes exactly that image, every sector good, and `report` the report of it. So does
 -- `decode-set`, over all captures, and `rescue` where the drive keeps its speed; else it calls such
@@ -93,7 +94,7 @@ Expected (a_trial format seed) status before after =
 Expected _ status before after = Unit {0}
 
 -- whatever the words ask for
-abbrev pub Promises : {S W N H : Type 0} → (words : List (List ℕ)) → Status
-    → (before after : World S W N H) → Type 0
+abbrev pub Promises : {S W N H M : Type 0} → (words : List (List ℕ)) → Status
+    → (before after : World S W N H M) → Type 0
 Promises words status before after =
     (asked : Asked) → AreWordsOf asked words → Expected asked status before after

@@ -10,6 +10,7 @@ use Rattle.sector_images.specs.declared.format.Format.{Format}
 use Rattle.flux_words.specs.Asked.{Asked, the_turns, some_streams, a_folder, some_dumps, a_sector}
 use Rattle.flux_words.specs.Asked.{an_identity, told_files, written_streams, a_trial, a_g64_file}
 use Rattle.flux_words.specs.Asked.{an_image_of_g64, a_page}
+use Rattle.flux_words.specs.Asked.{written_files}
 use Rattle.flux_words.specs.CommandWords.{AskFor}
 use Rattle.flux_words.specs.declared.commands.Way.{Way}
 use Rattle.flux_words.specs.declared.commands.Way.TheVariants.{Once, Often, ByBothClocks}
@@ -20,8 +21,10 @@ use Rattle.flux_cli.specs.InfoRuns.{info_work}
 use Rattle.flux_cli.specs.ReadRuns.{read_work}
 use Rattle.flux_cli.specs.SectorRuns.{sector_work}
 use Rattle.flux_words.specs.G64Disks.{format_of}
+use Rattle.flux_cli.specs.FilesWork.{files_work}
 use Rattle.flux_cli.specs.G64Work.{from_g64_work, to_g64_work}
 use Rattle.flux_cli.specs.ImagesWork.{write_work}
+use Rattle.flux_cli.specs.MakingWork.{MakingWork}
 use Rattle.flux_cli.specs.PlanWork.{planned_work}
 use Rattle.flux_cli.specs.PagesWork.{page_work}
 use Rattle.flux_cli.specs.TrialWork.{trial_work}
@@ -52,12 +55,13 @@ usage_work text = record {
   cut = usage_cut text;
 }
 
--- What there is to do: with the bytes of the source, with the files of the shelf, or
--- with those of a folder there.
+-- What there is to do: with the bytes of the source, with the files of the shelf, with those of a
+-- folder there, or, to make files, with the bytes of the source and what makes them.
 pub data Row : Type 1 where
   with_bytes : BytesWork → Row
   with_files : Work ShelfNow → Row
   with_folder : Format → (folder : List ℕ) → Row
+  with_maker : MakingWork → Row
 
 -- by what plan streams are read
 abbrev pub plan_of : Way → Plan
@@ -76,6 +80,7 @@ row_of (a_sector asked) = with_files (sector_work (shown_sector asked))
 row_of (an_identity dump) = with_files (identity_work dump)
 row_of (told_files dump) = with_files (info_work dump)
 row_of (written_streams format) = with_bytes (write_work format)
+row_of (written_files format folder) = with_maker (files_work format folder)
 row_of (a_trial format seed) = with_bytes (trial_work format seed)
 row_of (a_g64_file disk) = with_bytes (to_g64_work (format_of disk))
 row_of (an_image_of_g64 disk) = with_bytes (from_g64_work (format_of disk))
@@ -91,7 +96,7 @@ abbrev pub GivesOf : Row → List ℕ → Outcome → Type 0
 GivesOf (with_bytes work) x o = work.gives x o
 GivesOf _ x o = ⊥
 
--- and of the words, where they do not ask for what is on the shelf
+-- and of the words, where they do not ask for what is on the shelf, or for files
 abbrev pub IsOutcome : List (List ℕ) → List ℕ → Outcome → Type 0
 IsOutcome words x o =
     (asked : Option Asked) × AskFor words asked × GivesOf (row_for words asked) x o

@@ -4,17 +4,21 @@
 ghost use Rattle.std.specs.Prelude.{◌≡◌, [], get_or};
 ghost use Rattle.flux_cli.specs.Endings.{EndsBy, EndsDumps, EndsFault, file_ending, image_ending, plan_ending, refusal};
 ghost use Rattle.flux_cli.specs.Endings.{refuses, written_status};
+ghost use Rattle.flux_cli.specs.FilesWork.{IsOfTracks, files_ending};
 ghost use Rattle.flux_cli.specs.IdentityRuns.{identity_status};
 ghost use Rattle.flux_cli.specs.InfoRuns.{info_status};
+ghost use Rattle.flux_cli.specs.MakingWork.{EndsMaking, TellsUnmade};
 ghost use Rattle.flux_cli.specs.PlanWork.{status_of as totals_status};
 ghost use Rattle.flux_cli.specs.ReadRuns.{read_status};
 ghost use Rattle.flux_cli.specs.SectorRuns.{sector_status};
 ghost use Rattle.flux_base.specs.World.{sink_at};
 
 use crate::empty::write_empty;
+use crate::files_told::{exists_line, failed_line, folder_line, named_track};
 use crate::identity::status_of as status_of_identity;
 use crate::planned::stop_line;
 use crate::read::status_of as status_of_dumps;
+use disk_files::FilesFault;
 use dump_identity::Identity;
 use dump_reading::{DumpTotals, NoFiles};
 use dump_turns::TurnTotals;
@@ -22,6 +26,7 @@ use flux_base::{Failed, Sink, Status, Word};
 use flux_engine::{RefusedCapture, Stopped, WriteFault};
 use g64_image::{G64Fault, g64_line};
 use sector_copies::SectorTotals;
+use sector_images::Format;
 use sector_report::{Line, Naming, Totals, image_line, write_line};
 use track_shelf::Shelf;
 
@@ -80,6 +85,37 @@ pub(crate) fn end_of_image<N: Sink>(answer: Result<(), WriteFault>, notes: &mut 
         Err(WriteFault::ImageFault) => Status::ImageFault,
         Err(WriteFault::WrongSize { read, wanted }) => refuse(&image_line(read, wanted), notes),
     }
+}
+
+/// Ends an image that was written as files.
+pub(crate) fn end_of_files<N: Sink>(
+    format: Format,
+    answer: Result<(), FilesFault>,
+    notes: &mut N,
+) -> Status
+    requires { IsOfTracks format answer }
+    ensures { EndsMaking (files_ending format answer) result (sink_at N.Sink notes.old) (sink_at N.Sink notes.new) }
+{
+    match answer {
+        Ok(()) => Status::AllGood,
+        Err(FilesFault::ReadFault) => Status::ReadFault,
+        Err(FilesFault::WrongSize { read, wanted }) => refuse(&image_line(read, wanted), notes),
+        Err(FilesFault::Exists { track }) => {
+            refuse(&exists_line(track, named_track(format, track)), notes)
+        }
+        Err(FilesFault::FolderFault) => tell_unmade(&folder_line(), notes),
+        Err(FilesFault::FileFault { track }) => {
+            tell_unmade(&failed_line(track, named_track(format, track)), notes)
+        }
+    }
+}
+
+/// Writes the line that says what was not made. The status tells it too, whatever becomes of the line.
+fn tell_unmade<N: Sink>(line: &Line, notes: &mut N) -> Status
+    ensures { TellsUnmade line.now.bytes result (sink_at N.Sink notes.old) (sink_at N.Sink notes.new) }
+{
+    let _ = write_line(notes, line);
+    Status::ShelfFault
 }
 
 /// Ends a file that was read.

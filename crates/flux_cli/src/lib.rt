@@ -4,6 +4,8 @@
 
 mod empty;
 mod endings;
+mod files;
+mod files_told;
 mod folder;
 mod identity;
 mod laws;
@@ -20,4 +22,4 @@ pub use laws::{
     sector_outcomes_are_one,
 };
 pub use program::run;
-pub use std_streams::{StdShelf, StdSink, StdSource};
+pub use std_streams::{StdMaker, StdShelf, StdSink, StdSource};

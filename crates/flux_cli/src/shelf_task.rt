@@ -11,6 +11,7 @@ use crate::task::Task;
 use dump_identity::{IdentityRoom, identify};
 use dump_reading::Dumps;
 use dump_turns::{TurnsRoom, tell_turns};
+use file_maker::FileMaker;
 use flux_base::{Memory, Sink, Source, Status, Word};
 use flux_engine::DiskRoom;
 use flux_words::{DumpsAsked, ShowAsked};
@@ -27,7 +28,7 @@ pub(crate) struct DecodeFolder<'a> {
     pub(crate) folder: &'a Word,
 }
 
-impl<S: Source, W: Sink, N: Sink, H: Shelf> Task<S, W, N, H> for DecodeFolder<'_> {
+impl<S: Source, W: Sink, N: Sink, H: Shelf, M: FileMaker> Task<S, W, N, H, M> for DecodeFolder<'_> {
     ghost asked = { λ task. a_folder task.format task.folder.now };
 
     fn run(
@@ -37,6 +38,7 @@ impl<S: Source, W: Sink, N: Sink, H: Shelf> Task<S, W, N, H> for DecodeFolder<'_
         image: &mut W,
         notes: &mut N,
         shelf: &mut H,
+        _maker: &mut M,
     ) -> Status {
         match DiskRoom::reserve(alloc, self.format) {
             Ok(mut room) => decode_folder(
@@ -53,7 +55,7 @@ impl<S: Source, W: Sink, N: Sink, H: Shelf> Task<S, W, N, H> for DecodeFolder<'_
 }
 
 /// Reads a disk of its dumps, to its image and its report or to a picture.
-impl<S: Source, W: Sink, N: Sink, H: Shelf> Task<S, W, N, H> for DumpsAsked<'_> {
+impl<S: Source, W: Sink, N: Sink, H: Shelf, M: FileMaker> Task<S, W, N, H, M> for DumpsAsked<'_> {
     ghost asked = { λ task. some_dumps (asked_dumps task) };
 
     fn run(
@@ -63,6 +65,7 @@ impl<S: Source, W: Sink, N: Sink, H: Shelf> Task<S, W, N, H> for DumpsAsked<'_> 
         image: &mut W,
         notes: &mut N,
         shelf: &mut H,
+        _maker: &mut M,
     ) -> Status {
         let dumps = Dumps {
             names: self.dumps,
@@ -81,7 +84,7 @@ pub(crate) struct Identify<'a> {
     pub(crate) dump: &'a Word,
 }
 
-impl<S: Source, W: Sink, N: Sink, H: Shelf> Task<S, W, N, H> for Identify<'_> {
+impl<S: Source, W: Sink, N: Sink, H: Shelf, M: FileMaker> Task<S, W, N, H, M> for Identify<'_> {
     ghost asked = { λ task. an_identity task.dump.now };
 
     fn run(
@@ -91,6 +94,7 @@ impl<S: Source, W: Sink, N: Sink, H: Shelf> Task<S, W, N, H> for Identify<'_> {
         image: &mut W,
         notes: &mut N,
         shelf: &mut H,
+        _maker: &mut M,
     ) -> Status {
         match IdentityRoom::reserve(alloc) {
             Ok(room) => {
@@ -109,7 +113,7 @@ pub(crate) struct Info<'a> {
     pub(crate) dump: &'a Word,
 }
 
-impl<S: Source, W: Sink, N: Sink, H: Shelf> Task<S, W, N, H> for Info<'_> {
+impl<S: Source, W: Sink, N: Sink, H: Shelf, M: FileMaker> Task<S, W, N, H, M> for Info<'_> {
     ghost asked = { λ task. told_files task.dump.now };
 
     fn run(
@@ -119,6 +123,7 @@ impl<S: Source, W: Sink, N: Sink, H: Shelf> Task<S, W, N, H> for Info<'_> {
         image: &mut W,
         notes: &mut N,
         shelf: &mut H,
+        _maker: &mut M,
     ) -> Status {
         match TurnsRoom::reserve(alloc) {
             Ok(room) => {
@@ -132,7 +137,7 @@ impl<S: Source, W: Sink, N: Sink, H: Shelf> Task<S, W, N, H> for Info<'_> {
 
 /// Shows a sector of a disk of its dumps: its contents, or one of them alone, go to `image`. Notes say which streams
 /// were passed over, or which dump has none of the disk's files.
-impl<S: Source, W: Sink, N: Sink, H: Shelf> Task<S, W, N, H> for ShowAsked<'_> {
+impl<S: Source, W: Sink, N: Sink, H: Shelf, M: FileMaker> Task<S, W, N, H, M> for ShowAsked<'_> {
     ghost asked = { λ task. a_sector (asked_sector task) };
 
     fn run(
@@ -142,6 +147,7 @@ impl<S: Source, W: Sink, N: Sink, H: Shelf> Task<S, W, N, H> for ShowAsked<'_> {
         image: &mut W,
         notes: &mut N,
         shelf: &mut H,
+        _maker: &mut M,
     ) -> Status {
         let dumps = Dumps {
             names: self.dumps,

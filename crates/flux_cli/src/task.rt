@@ -2,7 +2,7 @@
 
 ghost use Rattle.std.specs.Prelude.{◌≡◌, false};
 ghost use Rattle.flux_cli.specs.AskedDisks.{IsFew, Keeps};
-ghost use Rattle.flux_cli.specs.Blamed.{CountsOfRun, over_dumps, world_counts};
+ghost use Rattle.flux_cli.specs.Blamed.{CountsOfRun, asks_files, over_dumps, world_counts};
 ghost use Rattle.flux_cli.specs.ShelfRuns.{DoesRow};
 ghost use Rattle.flux_cli.specs.Works.{plan_of, row_of};
 ghost use Rattle.flux_cli.specs.World.{world_at};
@@ -12,6 +12,7 @@ ghost use Rattle.flux_words.specs.Asked.{written_streams};
 use crate::endings::{end_of_file, end_of_image, end_of_writing};
 use crate::planned::decode_by_plan;
 use crate::turns::print_turns;
+use file_maker::FileMaker;
 use flux_base::{Memory, Sink, Source, Status};
 use flux_engine::{Plan, WriteRoom, decoding_plan, rescue_plan, set_plan, write_disk};
 use flux_help::{Page, write_page};
@@ -24,7 +25,7 @@ use std::alloc::Global;
 use track_shelf::Shelf;
 
 /// A command, with what its words ask for. An object of the outside that it has no use for stays as it was.
-pub(crate) trait Task<S: Source, W: Sink, N: Sink, H: Shelf> {
+pub(crate) trait Task<S: Source, W: Sink, N: Sink, H: Shelf, M: FileMaker> {
     /// What is asked.
     ghost asked: { Self → Asked };
 
@@ -36,23 +37,26 @@ pub(crate) trait Task<S: Source, W: Sink, N: Sink, H: Shelf> {
         image: &mut W,
         notes: &mut N,
         shelf: &mut H,
+        maker: &mut M,
     ) -> Status
         requires { Keeps (asked self.now) }
         ensures did { DoesRow (row_of (asked self.now)) result
-            (world_at S.Source W.Sink N.Sink H.Source H.Shelf.own source.old image.old notes.old shelf.old)
-            (world_at S.Source W.Sink N.Sink H.Source H.Shelf.own source.new image.new notes.new shelf.new) }
-        ensures counts { CountsOfRun (over_dumps (asked self.now)) false result
-            (world_counts (world_at S.Source W.Sink N.Sink H.Source H.Shelf.own source.old image.old notes.old
-            shelf.old))
-            (world_counts (world_at S.Source W.Sink N.Sink H.Source H.Shelf.own source.new image.new notes.new
-            shelf.new)) };
+            (world_at S.Source W.Sink N.Sink H.Source H.Shelf.own M.FileMaker
+            source.old image.old notes.old shelf.old maker.old)
+            (world_at S.Source W.Sink N.Sink H.Source H.Shelf.own M.FileMaker
+            source.new image.new notes.new shelf.new maker.new) }
+        ensures counts { CountsOfRun (over_dumps (asked self.now)) (asks_files (asked self.now)) false result
+            (world_counts (world_at S.Source W.Sink N.Sink H.Source H.Shelf.own M.FileMaker
+            source.old image.old notes.old shelf.old maker.old))
+            (world_counts (world_at S.Source W.Sink N.Sink H.Source H.Shelf.own M.FileMaker
+            source.new image.new notes.new shelf.new maker.new)) };
 }
 
 /// Reads one stream, and prints its transitions and turns.
 #[derive(Clone, Copy)]
 pub(crate) struct Turns;
 
-impl<S: Source, W: Sink, N: Sink, H: Shelf> Task<S, W, N, H> for Turns {
+impl<S: Source, W: Sink, N: Sink, H: Shelf, M: FileMaker> Task<S, W, N, H, M> for Turns {
     ghost asked = { λ _. the_turns };
 
     fn run(
@@ -62,6 +66,7 @@ impl<S: Source, W: Sink, N: Sink, H: Shelf> Task<S, W, N, H> for Turns {
         image: &mut W,
         notes: &mut N,
         _shelf: &mut H,
+        _maker: &mut M,
     ) -> Status {
         match StreamRoom::reserve(alloc) {
             Ok(mut room) => print_turns(&mut room, source, image, notes),
@@ -71,7 +76,7 @@ impl<S: Source, W: Sink, N: Sink, H: Shelf> Task<S, W, N, H> for Turns {
 }
 
 /// Decodes a disk in the way that is asked for, and gives its image with its report, the report alone, or a picture.
-impl<S: Source, W: Sink, N: Sink, H: Shelf> Task<S, W, N, H> for StreamsAsked {
+impl<S: Source, W: Sink, N: Sink, H: Shelf, M: FileMaker> Task<S, W, N, H, M> for StreamsAsked {
     ghost asked = { λ task. some_streams task };
 
     fn run(
@@ -81,6 +86,7 @@ impl<S: Source, W: Sink, N: Sink, H: Shelf> Task<S, W, N, H> for StreamsAsked {
         image: &mut W,
         notes: &mut N,
         _shelf: &mut H,
+        _maker: &mut M,
     ) -> Status {
         let plan = plan_of(self.way);
         decode_by_plan(alloc, plan, self.output, self.format, source, image, notes)
@@ -105,7 +111,7 @@ pub(crate) struct Write {
     pub(crate) format: Format,
 }
 
-impl<S: Source, W: Sink, N: Sink, H: Shelf> Task<S, W, N, H> for Write {
+impl<S: Source, W: Sink, N: Sink, H: Shelf, M: FileMaker> Task<S, W, N, H, M> for Write {
     ghost asked = { λ task. written_streams task.format };
 
     fn run(
@@ -115,6 +121,7 @@ impl<S: Source, W: Sink, N: Sink, H: Shelf> Task<S, W, N, H> for Write {
         image: &mut W,
         notes: &mut N,
         _shelf: &mut H,
+        _maker: &mut M,
     ) -> Status {
         match WriteRoom::reserve(alloc, self.format) {
             Ok(mut room) => end_of_image(write_disk(&mut room, source, image), notes),
@@ -130,7 +137,7 @@ pub(crate) struct Trial {
     pub(crate) seed: u32,
 }
 
-impl<S: Source, W: Sink, N: Sink, H: Shelf> Task<S, W, N, H> for Trial {
+impl<S: Source, W: Sink, N: Sink, H: Shelf, M: FileMaker> Task<S, W, N, H, M> for Trial {
     ghost asked = { λ task. a_trial task.format task.seed };
 
     fn run(
@@ -140,6 +147,7 @@ impl<S: Source, W: Sink, N: Sink, H: Shelf> Task<S, W, N, H> for Trial {
         image: &mut W,
         _notes: &mut N,
         _shelf: &mut H,
+        _maker: &mut M,
     ) -> Status {
         match TrialRoom::reserve(alloc, self.format) {
             Ok(mut room) => end_of_writing(run_trial(&mut room, self.seed, image)),
@@ -154,7 +162,7 @@ pub(crate) struct ToG64 {
     pub(crate) disk: G64Disk,
 }
 
-impl<S: Source, W: Sink, N: Sink, H: Shelf> Task<S, W, N, H> for ToG64 {
+impl<S: Source, W: Sink, N: Sink, H: Shelf, M: FileMaker> Task<S, W, N, H, M> for ToG64 {
     ghost asked = { λ task. a_g64_file task.disk };
 
     fn run(
@@ -164,6 +172,7 @@ impl<S: Source, W: Sink, N: Sink, H: Shelf> Task<S, W, N, H> for ToG64 {
         image: &mut W,
         notes: &mut N,
         _shelf: &mut H,
+        _maker: &mut M,
     ) -> Status {
         match G64Room::reserve(alloc, self.disk.format()) {
             Ok(mut room) => end_of_image(to_g64(&mut room, source, image), notes),
@@ -178,7 +187,7 @@ pub(crate) struct FromG64 {
     pub(crate) disk: G64Disk,
 }
 
-impl<S: Source, W: Sink, N: Sink, H: Shelf> Task<S, W, N, H> for FromG64 {
+impl<S: Source, W: Sink, N: Sink, H: Shelf, M: FileMaker> Task<S, W, N, H, M> for FromG64 {
     ghost asked = { λ task. an_image_of_g64 task.disk };
 
     fn run(
@@ -188,6 +197,7 @@ impl<S: Source, W: Sink, N: Sink, H: Shelf> Task<S, W, N, H> for FromG64 {
         image: &mut W,
         notes: &mut N,
         _shelf: &mut H,
+        _maker: &mut M,
     ) -> Status {
         match G64Room::reserve(alloc, self.disk.format()) {
             Ok(mut room) => {
@@ -205,7 +215,7 @@ pub(crate) struct Tell {
     pub(crate) page: Page,
 }
 
-impl<S: Source, W: Sink, N: Sink, H: Shelf> Task<S, W, N, H> for Tell {
+impl<S: Source, W: Sink, N: Sink, H: Shelf, M: FileMaker> Task<S, W, N, H, M> for Tell {
     ghost asked = { λ task. a_page task.page };
 
     fn run(
@@ -215,6 +225,7 @@ impl<S: Source, W: Sink, N: Sink, H: Shelf> Task<S, W, N, H> for Tell {
         image: &mut W,
         _notes: &mut N,
         _shelf: &mut H,
+        _maker: &mut M,
     ) -> Status {
         end_of_writing(write_page(self.page, image))
     }

@@ -8,8 +8,8 @@ use Rattle.flux_help.specs.declared.verb.Verb.{Verb}
 use Rattle.flux_help.specs.declared.verb.Verb.TheVariants.{Identify, Info, Read, Show, DecodeFolder, DecodeSet, Rescue, Decode, Report, Map, Write, Turns, ToG64, FromG64, Trial, Help}
 use Rattle.sector_images.specs.Formats.{WordsBeginWithLetters, WordsNameFormats}
 use Rattle.sector_images.specs.declared.format.Format.{Format}
-use Rattle.flux_words.specs.Asked.{Asked, a_folder, some_dumps, a_sector, an_identity, told_files, written_streams, a_trial, a_g64_file, an_image_of_g64, a_page}
-use Rattle.flux_words.specs.CommandWords.{AreBehind, AreByVerb, AreStreams, AskFor, AskOnce, IsDashed, IsFormat, IsFormatWith, IsPageWord, streams_of}
+use Rattle.flux_words.specs.Asked.{Asked, a_folder, some_dumps, a_sector, an_identity, told_files, written_streams, written_files, a_trial, a_g64_file, an_image_of_g64, a_page}
+use Rattle.flux_words.specs.CommandWords.{AreBehind, AreByVerb, AreFilesWords, AreStreams, AskFor, AskOnce, IsDashed, IsFormat, IsFormatWith, IsPageWord, streams_of}
 use Rattle.flux_words.specs.DumpWords.{AreDiskWords, dump_options}
 use Rattle.flux_words.specs.G64Disks.{format_of}
 use Rattle.flux_words.specs.Names.{Names}
@@ -22,6 +22,15 @@ use Rattle.flux_words.specs.declared.g64_disk.G64Disk.TheVariants.{Tracks35, Tra
 use Rattle.flux_words.proofs.DumpWords.{disk-past, one-disk, one-format}
 use Rattle.flux_words.proofs.OptionWords.{head-same, one-named, tail-same}
 use Rattle.flux_words.proofs.SectorWords.{one-place, place-past}
+
+-- an image's streams joined, or as files
+pub files-or : (others : List (List ℕ)) (asked : Option Asked) → ((format : Format) → ¬ IsFormat format others) → Names (AreFilesWords others) asked → Names (AreBehind Write others) asked
+files-or others (Some asked) lacks are = inr are
+files-or others None lacks are = by
+  where
+    by : (asked : Asked) → AreBehind Write others asked → ⊥
+    by asked (inl p) = lacks p.0 p.1
+    by asked (inr p) = are asked p
 
 -- no verb's
 pub by-no-verb : (words : List (List ℕ)) (seen dashed first : List ℕ) (others : List (List ℕ)) (asked : Option Asked) → words ≡ first ∷ others → seen ≡ first → dashed ≡ first
@@ -84,7 +93,13 @@ module _ (names : WordsNameFormats) (letters : WordsBeginWithLetters) where
     one_behind Show a b p q = p.2 ∙ ap a_sector (one-named sector_options ArePlaceWords (place-past letters) (λ c d ws. one-place names c d ws) others p.0 q.0 p.1 q.1) ∙ sym q.2
     one_behind Identify a b p q = p.2 ∙ ap an_identity (head-same _ _ _ _ (sym p.1.0 ∙ q.1.0)) ∙ sym q.2
     one_behind Info a b p q = p.2 ∙ ap told_files (head-same _ _ _ _ (sym p.1.0 ∙ q.1.0)) ∙ sym q.2
-    one_behind Write a b p q = p.2 ∙ ap written_streams (same_format p.0 q.0 p.1 q.1) ∙ sym q.2
+    one_behind Write a b (inl p) (inl q) = p.2 ∙ ap written_streams (same_format p.0 q.0 p.1 q.1) ∙ sym q.2
+    one_behind Write a b (inl p) (inr q) = (let wrong : 1 ≡ 3 = ap length (sym p.1.1 ∙ q.2.1) in absurd (omega (arith, wrong)))
+    one_behind Write a b (inr p) (inl q) = (let wrong : 3 ≡ 1 = ap length (sym p.2.1 ∙ q.1.1) in absurd (omega (arith, wrong)))
+    one_behind Write a b (inr p) (inr q) =
+        let behind = tail-same _ _ _ _ (sym p.2.1 ∙ q.2.1) in
+        let format : p.0 ≡ q.0 = one-format names p.2.0 q.2.0 p.0 q.0 (head-same _ _ _ _ (tail-same _ _ _ _ behind)) p.2.2 q.2.2 in
+        p.5 ∙ ap (λ (f : Format). written_files f p.1) format ∙ ap (written_files q.0) (head-same _ _ _ _ behind) ∙ sym q.5
     one_behind Trial a b p q =
         let seed : p.2 ≡ q.2 = sym p.4.value ∙ ap (digits_value 10) (same_last p.0 q.0 p.1 q.1 p.3 q.3) ∙ q.4.value in
         p.5 ∙ ap (a_trial p.0) seed ∙ ap (λ (f : Format). a_trial f q.2) (same_format_with p.0 q.0 p.1 q.1 p.3 q.3) ∙ sym q.5

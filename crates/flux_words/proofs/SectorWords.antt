@@ -141,6 +141,13 @@ three_first (x ∷ (y ∷ (z ∷ rest))) a b c some is_a is_b is_c =
     ap (λ (w : List ℕ). w ∷ y ∷ z ∷ rest) (sym is_a) ∙ ap (λ (w : List ℕ). a ∷ w ∷ z ∷ rest) (sym is_b) ∙ ap (λ (w : List ℕ). a ∷ b ∷ w ∷ rest) (sym is_c)
     ∙ ap (λ (ws : List (List ℕ)). a ∷ b ∷ c ∷ ws) (sym (slice-rest (x ∷ y ∷ z ∷ rest) 3))
 
+-- and that are no more
+pub three_words : (words : List (List ℕ)) (a b c : List ℕ) → 3 ≤ length words → length words < 4 → a ≡ get_or words 0 a → b ≡ get_or words 1 b → c ≡ get_or words 2 c
+    → words ≡ a ∷ b ∷ c ∷ []
+three_words words a b c some few is_a is_b is_c =
+    let none : length words - 3 ≡ 0 = omega (arith, some, few) in
+    three_first words a b c some is_a is_b is_c ∙ ap (λ (n : ℕ). a ∷ b ∷ c ∷ take n (drop 3 words)) none
+
 -- the first number of which something holds, found by looking at one after another
 pub next-number : (Holds : ℕ → Type 0) (n : ℕ) → ((k : ℕ) → k < n → ¬ Holds k) → ¬ Holds n → (k : ℕ) → k < n + 1 → ¬ Holds k
 next-number Holds n before other k low = elim (cases_lt k n) [

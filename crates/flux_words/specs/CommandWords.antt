@@ -1,5 +1,6 @@
 -- The words of a command: its verb's, and those behind it.
-use Rattle.std.specs.Prelude.{◌≡◌, ◌≢◌, ◌⊎◌, ℕ, List, [], ◌∷◌, codes, Option, Some, None}
+use Rattle.std.specs.Prelude.{◌≡◌, ◌≢◌, ◌⊎◌, ℕ, false, List, [], ◌∷◌, codes, Option, Some}
+use Rattle.std.specs.Prelude.{None}
 use Rattle.flux_help.specs.Verbs.{verb_of}
 use Rattle.flux_help.specs.declared.page.Page.{Page}
 use Rattle.flux_help.specs.declared.page.Page.TheVariants.{Help as AllPages, Version, About}
@@ -10,9 +11,11 @@ use Rattle.flux_help.specs.declared.verb.Verb.TheVariants.{Write, Turns, ToG64, 
 use Rattle.flux_help.specs.declared.verb.Verb.TheVariants.{Help}
 use Rattle.sector_images.specs.Formats.{IsWordOfFormat}
 use Rattle.sector_images.specs.declared.format.Format.{Format}
+use Rattle.track_shelf.specs.Names.{names_file}
 use Rattle.flux_words.specs.Asked.{Asked, the_turns, some_streams, a_folder, some_dumps, a_sector}
 use Rattle.flux_words.specs.Asked.{an_identity, told_files, written_streams, a_trial, a_g64_file}
 use Rattle.flux_words.specs.Asked.{an_image_of_g64, a_page}
+use Rattle.flux_words.specs.Asked.{written_files}
 use Rattle.flux_words.specs.Counts.{IsCount}
 use Rattle.flux_words.specs.DumpWords.{AskedDumps, AreDumpWords}
 use Rattle.flux_words.specs.G64Disks.{format_of}
@@ -34,6 +37,19 @@ IsFormat format others = (word : List ℕ) × (others ≡ word ∷ []) × IsWord
 abbrev pub IsFormatWith : Format → (last : List ℕ) → (others : List (List ℕ)) → Type 0
 IsFormatWith format last others =
     (word : List ℕ) × (others ≡ word ∷ last ∷ []) × IsWordOfFormat word format
+
+-- and before it a folder, behind the option's word
+abbrev pub IsFormatInFolder : Format → (folder : List ℕ) → (others : List (List ℕ)) → Type 0
+IsFormatInFolder format folder others =
+    (word : List ℕ) × (others ≡ codes "--folder" ∷ folder ∷ word ∷ []) × IsWordOfFormat word format
+
+-- an image's streams as files of a folder, which has a name, and not that of a track's file, by
+-- which a dump may be named
+abbrev pub AreFilesWords : (others : List (List ℕ)) → Asked → Type 0
+AreFilesWords others asked =
+    (format : Format) × (folder : List ℕ) × IsFormatInFolder format folder others × (folder ≢ [])
+    × (names_file folder ≡ false)
+    × (asked ≡ written_files format folder)
 
 -- a disk's streams, read in this way, to this output
 abbrev pub streams_of : Way → Output → Format → Asked
@@ -69,7 +85,8 @@ AreBehind Identify others asked =
     (dump : List ℕ) × IsDump others dump × (asked ≡ an_identity dump)
 AreBehind Info others asked = (dump : List ℕ) × IsDump others dump × (asked ≡ told_files dump)
 AreBehind Write others asked =
-    (format : Format) × IsFormat format others × (asked ≡ written_streams format)
+    ((format : Format) × IsFormat format others × (asked ≡ written_streams format))
+    ⊎ AreFilesWords others asked
 AreBehind Trial others asked =
     (format : Format) × (number : List ℕ) × (seed : ℕ) × IsFormatWith format number others
     × IsSeed seed number

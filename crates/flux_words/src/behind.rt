@@ -5,7 +5,7 @@ ghost use Rattle.std.specs.Option.{option_map};
 ghost use Rattle.flux_help.specs.declared.verb.Verb.TheVariants.{DecodeFolder, DecodeSet, FromG64, Help, Identify};
 ghost use Rattle.flux_help.specs.declared.verb.Verb.TheVariants.{Info, Read, Show, ToG64, Trial, Turns, Write};
 ghost use Rattle.flux_words.specs.Asked.{asked_of};
-ghost use Rattle.flux_words.specs.CommandWords.{AreStreams, IsDump, IsFormat, IsFormatWith};
+ghost use Rattle.flux_words.specs.CommandWords.{AreFilesWords, AreStreams, IsDump, IsFormat, IsFormatInFolder, IsFormatWith};
 ghost use Rattle.flux_words.specs.inside.CommandWords.{AskBehind};
 ghost use Rattle.flux_words.specs.G64Disks.{format_of};
 ghost use Rattle.flux_words.specs.Names.{Names};
@@ -20,6 +20,7 @@ use crate::{dump_words, sector_words};
 use flux_base::Word;
 use flux_help::{Page, Verb};
 use sector_images::{Format, words_name_formats};
+use track_shelf::names_file;
 
 /// A format alone.
 fn format_in(others: &[Word]) -> Option<Format>
@@ -42,6 +43,26 @@ fn format_with(others: &[Word]) -> Option<(Format, &Word)>
             Some(format) => Some((format, last)),
             None => None,
         },
+        _ => None,
+    }
+}
+
+/// A folder, behind the option's word, and a format.
+fn format_in_folder(others: &[Word]) -> Option<(Format, &Word)>
+    ensures some { IfSome result (λ named. IsFormatInFolder named.0 named.1.now others.now) }
+    ensures none { IfNone result ((format : Kind) (folder : List ℕ) → ¬ IsFormatInFolder format folder others.now) }
+{
+    match others {
+        [option, folder, word] => {
+            if option.bytes() == b"--folder".as_slice() {
+                match Format::of_word(word.bytes()) {
+                    Some(format) => Some((format, folder)),
+                    None => None,
+                }
+            } else {
+                None
+            }
+        }
         _ => None,
     }
 }
@@ -170,7 +191,25 @@ pub(crate) fn write_behind(others: &[Word]) -> Option<Command<'_>>
 {
     match format_in(others) {
         Some(format) => Some(Command::Write(format)),
-        None => None,
+        None => files_behind(others),
+    }
+}
+
+/// The streams of an image's tracks as files of a folder.
+fn files_behind(others: &[Word]) -> Option<Command<'_>>
+    ensures { Names (AreFilesWords others.now) (option_map asked_of result) }
+{
+    words_name_formats();
+    let Some((format, folder)) = format_in_folder(others) else {
+        return None;
+    };
+    let name = folder.bytes();
+    if name.is_empty() {
+        None
+    } else if names_file(name) {
+        None
+    } else {
+        Some(Command::WriteFiles(format, folder))
     }
 }
 

@@ -39,6 +39,8 @@ pub enum Command<'a> {
     Info(&'a Word),
     /// The streams of a disk's tracks, from its image.
     Write(Format),
+    /// The same as files of a folder.
+    WriteFiles(Format, &'a Word),
     /// The trial that a number names.
     Trial(Format, u32),
     /// The file that emulators keep of a disk, from its image.

@@ -5,6 +5,7 @@ mod streams;
 mod system;
 mod words;
 
+use file_maker::MemoryMaker;
 use flux_base::{Memory, MemorySink, MemorySource, Status, Word};
 use flux_cli::run;
 use input::{Part, joined};
@@ -96,6 +97,7 @@ fn run_of(alloc: Global, row: &Row) -> Result<Ended, Memory> {
     let mut image = sink_of(alloc, row.failing.image)?;
     let mut notes = sink_of(alloc, row.failing.notes)?;
     let mut shelf = MemoryShelf::new(&[], 1, &[]);
+    let mut maker = MemoryMaker::new(alloc, 0, 0, &[])?;
     let status = run(
         alloc,
         &words,
@@ -103,6 +105,7 @@ fn run_of(alloc: Global, row: &Row) -> Result<Ended, Memory> {
         &mut image,
         &mut notes,
         &mut shelf,
+        &mut maker,
     );
     Ok(Ended {
         status,

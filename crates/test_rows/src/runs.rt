@@ -1,6 +1,7 @@
 //! Runs of the program over objects in memory.
 use crate::disk::Disk;
 use crate::short_sink::ShortSink;
+use file_maker::MemoryMaker;
 use flux_base::{Memory, MemorySink, MemorySource, TrackId, Word};
 use flux_cli::run;
 use std::alloc::{AllocError, Global};
@@ -203,6 +204,7 @@ pub fn end_of(alloc: Global, row: Run) -> Result<Ended, Memory> {
     let files = shelf_files(alloc, row)?;
     let failing = listed(alloc, row.failing_shelf)?;
     let mut shelf = MemoryShelf::new(&files, row.chunk.max(1), &failing);
+    let mut maker = MemoryMaker::new(alloc, 0, 0, &[])?;
     let mut image = sink_of(alloc, row.failing_image, row.taken)?;
     let mut notes = sink_of(alloc, row.failing_notes, row.taken)?;
     let status = run(
@@ -212,6 +214,7 @@ pub fn end_of(alloc: Global, row: Run) -> Result<Ended, Memory> {
         &mut image,
         &mut notes,
         &mut shelf,
+        &mut maker,
     );
     Ok(Ended {
         code: status.code(),

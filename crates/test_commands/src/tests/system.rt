@@ -2,7 +2,7 @@
 use super::input::TWO_TRANSITIONS;
 use super::{Ended, words_of};
 use flux_base::{Memory, MemorySink, MemorySource, Status};
-use flux_cli::{StdShelf, run};
+use flux_cli::{StdMaker, StdShelf, run};
 use std::fs;
 use std::test::Fail;
 
@@ -14,6 +14,7 @@ fn decode_folder(rt: &HostRuntime, folder: &str) -> Result<Ended, Memory> {
     let mut image = MemorySink::new(alloc, 200_000, Vec::new(alloc))?;
     let mut notes = MemorySink::new(alloc, 20_000, Vec::new(alloc))?;
     let mut shelf = StdShelf::new(rt);
+    let mut maker = StdMaker::new(rt);
     let status = run(
         alloc,
         &words,
@@ -21,6 +22,7 @@ fn decode_folder(rt: &HostRuntime, folder: &str) -> Result<Ended, Memory> {
         &mut image,
         &mut notes,
         &mut shelf,
+        &mut maker,
     );
     Ok(Ended {
         status,

@@ -1,5 +1,6 @@
 //! Runs of the program over objects in memory that have room for the streams of any image,
 //! and over shelves with any files.
+use file_maker::MemoryMaker;
 use flux_base::{Memory, MemorySink, MemorySource, Word};
 use flux_cli::run;
 use std::alloc::Global;
@@ -52,7 +53,8 @@ fn code_of(
 ) -> Result<u8, Memory> {
     let words = words_of(alloc, texts)?;
     let mut source = MemorySource::new(input.to_vec(alloc)?, 4096, Vec::new(alloc));
-    let status = run(alloc, &words, &mut source, image, notes, shelf);
+    let mut maker = MemoryMaker::new(alloc, 0, 0, &[])?;
+    let status = run(alloc, &words, &mut source, image, notes, shelf, &mut maker);
     Ok(status.code())
 }
 

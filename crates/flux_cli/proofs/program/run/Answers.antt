@@ -1,6 +1,6 @@
 use Rattle.flux_base.specs.Moments.{Moment}
 use Rattle.flux_base.specs.World.{sink_at}
-use Rattle.flux_cli.specs.Blamed.{reads_dumps}
+use Rattle.flux_cli.specs.Blamed.{makes_files, reads_dumps}
 use Rattle.flux_cli.proofs.Headlines.{Laws}
 use Rattle.flux_cli.proofs.Promised.{promised}
 use Rattle.flux_cli.proofs.Telling.{counts-told, notes-later, promises-told, ran-told}
@@ -28,10 +28,10 @@ behind g c = sink_at g.N.Sink c.tell_output.new.notes
 
 pub returns-clause-ran : goal.returns-clause-ran
 returns-clause-ran g c =
-    ran-told c.run_words-status.ensures.ran (behind g c) c.tell_output.ensures (notes-later _ _ _ _ c.run_words-status.ensures.counts)
+    ran-told c.run_words-status.ensures.ran (behind g c) c.tell_output.ensures (notes-later _ _ _ _ _ c.run_words-status.ensures.counts)
 
 pub returns-clause-counts : goal.returns-clause-counts
-returns-clause-counts g c = counts-told c.args.words.now _ (behind g c) (reads_dumps c.args.words.now) _ _ _ _ _ _ _ c.run_words-status.result c.tell_output.ensures c.run_words-status.ensures.counts
+returns-clause-counts g c = counts-told c.args.words.now _ (behind g c) (reads_dumps c.args.words.now) (makes_files c.args.words.now) _ _ _ _ _ _ _ _ _ c.run_words-status.result c.tell_output.ensures c.run_words-status.ensures.counts
 
 pub returns-clause-promises : goal.returns-clause-promises
 returns-clause-promises g c =

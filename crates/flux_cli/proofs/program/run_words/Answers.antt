@@ -4,13 +4,13 @@ use Rattle.flux_help.specs.WrongWords.{wrong_text}
 use Rattle.flux_base.specs.declared.status.Status.TheVariants.{NotesFault, ShelfFault, Usage}
 use Rattle.flux_base.specs.lemmas.Blaming.{CountsBy-notes}
 use Rattle.flux_engine.specs.lemmas.ReadLaws.{no_reads}
-use Rattle.flux_words.specs.Asked.{the_turns, some_streams, a_folder, some_dumps, a_sector, an_identity, told_files, written_streams, a_trial, a_g64_file, an_image_of_g64, a_page}
+use Rattle.flux_words.specs.Asked.{the_turns, some_streams, a_folder, some_dumps, a_sector, an_identity, told_files, written_streams, written_files, a_trial, a_g64_file, an_image_of_g64, a_page}
 use Rattle.flux_words.specs.DumpWords.{asked_dumps}
 use Rattle.flux_words.specs.SectorWords.{asked_sector}
-use Rattle.flux_cli.proofs.AskedWords.{asked_keeps, asked_over}
+use Rattle.flux_cli.proofs.AskedWords.{asked_keeps, counts-asked}
 use Rattle.flux_cli.proofs.Blaming.{run-of-source}
 use Rattle.flux_cli.proofs.Runs.{usage-cut, usage-finish}
-use Rattle.flux_cli.specs.Blamed.{reads_dumps}
+use Rattle.flux_cli.specs.Blamed.{makes_files, reads_dumps}
 use Rattle.flux_cli.specs.Works.{usage_work}
 use Rattle.flux_cli.proofs.program.run_words.Goals as goal
 
@@ -42,6 +42,7 @@ returns-in-Ok-clause-ran g c = record {
       keeps = λ x told. no_reads (usage_work (wrong_text c.args.words.now)).untold _;
     },
     refl,
+    refl,
   );
 }
 
@@ -59,84 +60,91 @@ returns-in-Err-clause-ran g c = record {
       keeps = λ x told. no_reads (usage_work (wrong_text c.args.words.now)).untold _;
     },
     refl,
+    refl,
   );
 }
 
 pub returns-in-Ok-clause-counts : goal.returns-in-Ok-clause-counts
-returns-in-Ok-clause-counts g c = run-of-source (reads_dumps c.args.words.now) Usage usage-other (CountsBy-notes _ _ false c.in-Ok.ensures.counts)
+returns-in-Ok-clause-counts g c = run-of-source (reads_dumps c.args.words.now) (makes_files c.args.words.now) Usage usage-other (CountsBy-notes _ _ false c.in-Ok.ensures.counts)
 
 pub returns-in-Err-clause-counts : goal.returns-in-Err-clause-counts
-returns-in-Err-clause-counts g c = run-of-source (reads_dumps c.args.words.now) NotesFault notes-other (CountsBy-notes _ _ true c.in-Err.ensures.counts)
+returns-in-Err-clause-counts g c = run-of-source (reads_dumps c.args.words.now) (makes_files c.args.words.now) NotesFault notes-other (CountsBy-notes _ _ true c.in-Err.ensures.counts)
 
 -- the words' command
 pub returns-in-Some-Turns-clause-ran : goal.returns-in-Some-Turns-clause-ran
 returns-in-Some-Turns-clause-ran g c = record { asked = Some the_turns; asks = (rw c.in-Some-Turns.field-0-is at c.in-Some-Turns.ensures); did = c.run.ensures.did }
 
 pub returns-in-Some-Turns-clause-counts : goal.returns-in-Some-Turns-clause-counts
-returns-in-Some-Turns-clause-counts g c = rw (asked_over c.args.words.now the_turns (rw c.in-Some-Turns.field-0-is at c.in-Some-Turns.ensures)) c.run.ensures.counts
+returns-in-Some-Turns-clause-counts g c = counts-asked c.args.words.now the_turns (rw c.in-Some-Turns.field-0-is at c.in-Some-Turns.ensures) c.run.ensures.counts
 
 pub returns-in-Some-Streams-clause-ran : goal.returns-in-Some-Streams-clause-ran
 returns-in-Some-Streams-clause-ran g c = record { asked = Some (some_streams c.in-Some-Streams.asked); asks = (rw c.in-Some-Streams.field-0-is at c.in-Some-Streams.ensures); did = c.run-in-Some-Streams.ensures.did }
 
 pub returns-in-Some-Streams-clause-counts : goal.returns-in-Some-Streams-clause-counts
-returns-in-Some-Streams-clause-counts g c = rw (asked_over c.args.words.now (some_streams c.in-Some-Streams.asked) (rw c.in-Some-Streams.field-0-is at c.in-Some-Streams.ensures)) c.run-in-Some-Streams.ensures.counts
+returns-in-Some-Streams-clause-counts g c = counts-asked c.args.words.now (some_streams c.in-Some-Streams.asked) (rw c.in-Some-Streams.field-0-is at c.in-Some-Streams.ensures) c.run-in-Some-Streams.ensures.counts
 
 pub returns-in-Some-Folder-clause-ran : goal.returns-in-Some-Folder-clause-ran
 returns-in-Some-Folder-clause-ran g c = record { asked = Some (a_folder c.in-Some-Folder.format c.in-Some-Folder.folder.now); asks = (rw c.in-Some-Folder.field-0-is at c.in-Some-Folder.ensures); did = c.run-in-Some-Folder.ensures.did }
 
 pub returns-in-Some-Folder-clause-counts : goal.returns-in-Some-Folder-clause-counts
-returns-in-Some-Folder-clause-counts g c = rw (asked_over c.args.words.now (a_folder c.in-Some-Folder.format c.in-Some-Folder.folder.now) (rw c.in-Some-Folder.field-0-is at c.in-Some-Folder.ensures)) c.run-in-Some-Folder.ensures.counts
+returns-in-Some-Folder-clause-counts g c = counts-asked c.args.words.now (a_folder c.in-Some-Folder.format c.in-Some-Folder.folder.now) (rw c.in-Some-Folder.field-0-is at c.in-Some-Folder.ensures) c.run-in-Some-Folder.ensures.counts
 
 pub returns-in-Some-Dumps-clause-ran : goal.returns-in-Some-Dumps-clause-ran
 returns-in-Some-Dumps-clause-ran g c = record { asked = Some (some_dumps (asked_dumps c.in-Some-Dumps.asked)); asks = (rw c.in-Some-Dumps.field-0-is at c.in-Some-Dumps.ensures); did = c.run-in-Some-Dumps.ensures.did }
 
 pub returns-in-Some-Dumps-clause-counts : goal.returns-in-Some-Dumps-clause-counts
-returns-in-Some-Dumps-clause-counts g c = rw (asked_over c.args.words.now (some_dumps (asked_dumps c.in-Some-Dumps.asked)) (rw c.in-Some-Dumps.field-0-is at c.in-Some-Dumps.ensures)) c.run-in-Some-Dumps.ensures.counts
+returns-in-Some-Dumps-clause-counts g c = counts-asked c.args.words.now (some_dumps (asked_dumps c.in-Some-Dumps.asked)) (rw c.in-Some-Dumps.field-0-is at c.in-Some-Dumps.ensures) c.run-in-Some-Dumps.ensures.counts
 
 pub returns-in-Some-Sector-clause-ran : goal.returns-in-Some-Sector-clause-ran
 returns-in-Some-Sector-clause-ran g c = record { asked = Some (a_sector (asked_sector c.in-Some-Sector.asked)); asks = (rw c.in-Some-Sector.field-0-is at c.in-Some-Sector.ensures); did = c.run-in-Some-Sector.ensures.did }
 
 pub returns-in-Some-Sector-clause-counts : goal.returns-in-Some-Sector-clause-counts
-returns-in-Some-Sector-clause-counts g c = rw (asked_over c.args.words.now (a_sector (asked_sector c.in-Some-Sector.asked)) (rw c.in-Some-Sector.field-0-is at c.in-Some-Sector.ensures)) c.run-in-Some-Sector.ensures.counts
+returns-in-Some-Sector-clause-counts g c = counts-asked c.args.words.now (a_sector (asked_sector c.in-Some-Sector.asked)) (rw c.in-Some-Sector.field-0-is at c.in-Some-Sector.ensures) c.run-in-Some-Sector.ensures.counts
 
 pub returns-in-Some-Identify-clause-ran : goal.returns-in-Some-Identify-clause-ran
 returns-in-Some-Identify-clause-ran g c = record { asked = Some (an_identity c.in-Some-Identify.dump.now); asks = (rw c.in-Some-Identify.field-0-is at c.in-Some-Identify.ensures); did = c.run-in-Some-Identify.ensures.did }
 
 pub returns-in-Some-Identify-clause-counts : goal.returns-in-Some-Identify-clause-counts
-returns-in-Some-Identify-clause-counts g c = rw (asked_over c.args.words.now (an_identity c.in-Some-Identify.dump.now) (rw c.in-Some-Identify.field-0-is at c.in-Some-Identify.ensures)) c.run-in-Some-Identify.ensures.counts
+returns-in-Some-Identify-clause-counts g c = counts-asked c.args.words.now (an_identity c.in-Some-Identify.dump.now) (rw c.in-Some-Identify.field-0-is at c.in-Some-Identify.ensures) c.run-in-Some-Identify.ensures.counts
+
+pub returns-in-Some-WriteFiles-clause-ran : goal.returns-in-Some-WriteFiles-clause-ran
+returns-in-Some-WriteFiles-clause-ran g c = record { asked = Some (written_files c.in-Some-WriteFiles.format c.in-Some-WriteFiles.folder.now); asks = (rw c.in-Some-WriteFiles.field-0-is at c.in-Some-WriteFiles.ensures); did = c.run-in-Some-WriteFiles.ensures.did }
+
+pub returns-in-Some-WriteFiles-clause-counts : goal.returns-in-Some-WriteFiles-clause-counts
+returns-in-Some-WriteFiles-clause-counts g c = counts-asked c.args.words.now (written_files c.in-Some-WriteFiles.format c.in-Some-WriteFiles.folder.now) (rw c.in-Some-WriteFiles.field-0-is at c.in-Some-WriteFiles.ensures) c.run-in-Some-WriteFiles.ensures.counts
 
 pub returns-in-Some-Info-clause-ran : goal.returns-in-Some-Info-clause-ran
 returns-in-Some-Info-clause-ran g c = record { asked = Some (told_files c.in-Some-Info.dump.now); asks = (rw c.in-Some-Info.field-0-is at c.in-Some-Info.ensures); did = c.run-in-Some-Info.ensures.did }
 
 pub returns-in-Some-Info-clause-counts : goal.returns-in-Some-Info-clause-counts
-returns-in-Some-Info-clause-counts g c = rw (asked_over c.args.words.now (told_files c.in-Some-Info.dump.now) (rw c.in-Some-Info.field-0-is at c.in-Some-Info.ensures)) c.run-in-Some-Info.ensures.counts
+returns-in-Some-Info-clause-counts g c = counts-asked c.args.words.now (told_files c.in-Some-Info.dump.now) (rw c.in-Some-Info.field-0-is at c.in-Some-Info.ensures) c.run-in-Some-Info.ensures.counts
 
 pub returns-in-Some-Write-clause-ran : goal.returns-in-Some-Write-clause-ran
 returns-in-Some-Write-clause-ran g c = record { asked = Some (written_streams c.in-Some-Write.format); asks = (rw c.in-Some-Write.field-0-is at c.in-Some-Write.ensures); did = c.run-in-Some-Write.ensures.did }
 
 pub returns-in-Some-Write-clause-counts : goal.returns-in-Some-Write-clause-counts
-returns-in-Some-Write-clause-counts g c = rw (asked_over c.args.words.now (written_streams c.in-Some-Write.format) (rw c.in-Some-Write.field-0-is at c.in-Some-Write.ensures)) c.run-in-Some-Write.ensures.counts
+returns-in-Some-Write-clause-counts g c = counts-asked c.args.words.now (written_streams c.in-Some-Write.format) (rw c.in-Some-Write.field-0-is at c.in-Some-Write.ensures) c.run-in-Some-Write.ensures.counts
 
 pub returns-in-Some-Trial-clause-ran : goal.returns-in-Some-Trial-clause-ran
 returns-in-Some-Trial-clause-ran g c = record { asked = Some (a_trial c.in-Some-Trial.format c.in-Some-Trial.seed); asks = (rw c.in-Some-Trial.field-0-is at c.in-Some-Trial.ensures); did = c.run-in-Some-Trial.ensures.did }
 
 pub returns-in-Some-Trial-clause-counts : goal.returns-in-Some-Trial-clause-counts
-returns-in-Some-Trial-clause-counts g c = rw (asked_over c.args.words.now (a_trial c.in-Some-Trial.format c.in-Some-Trial.seed) (rw c.in-Some-Trial.field-0-is at c.in-Some-Trial.ensures)) c.run-in-Some-Trial.ensures.counts
+returns-in-Some-Trial-clause-counts g c = counts-asked c.args.words.now (a_trial c.in-Some-Trial.format c.in-Some-Trial.seed) (rw c.in-Some-Trial.field-0-is at c.in-Some-Trial.ensures) c.run-in-Some-Trial.ensures.counts
 
 pub returns-in-Some-ToG64-clause-ran : goal.returns-in-Some-ToG64-clause-ran
 returns-in-Some-ToG64-clause-ran g c = record { asked = Some (a_g64_file c.in-Some-ToG64.disk); asks = (rw c.in-Some-ToG64.field-0-is at c.in-Some-ToG64.ensures); did = c.run-in-Some-ToG64.ensures.did }
 
 pub returns-in-Some-ToG64-clause-counts : goal.returns-in-Some-ToG64-clause-counts
-returns-in-Some-ToG64-clause-counts g c = rw (asked_over c.args.words.now (a_g64_file c.in-Some-ToG64.disk) (rw c.in-Some-ToG64.field-0-is at c.in-Some-ToG64.ensures)) c.run-in-Some-ToG64.ensures.counts
+returns-in-Some-ToG64-clause-counts g c = counts-asked c.args.words.now (a_g64_file c.in-Some-ToG64.disk) (rw c.in-Some-ToG64.field-0-is at c.in-Some-ToG64.ensures) c.run-in-Some-ToG64.ensures.counts
 
 pub returns-in-Some-FromG64-clause-ran : goal.returns-in-Some-FromG64-clause-ran
 returns-in-Some-FromG64-clause-ran g c = record { asked = Some (an_image_of_g64 c.in-Some-FromG64.disk); asks = (rw c.in-Some-FromG64.field-0-is at c.in-Some-FromG64.ensures); did = c.run-in-Some-FromG64.ensures.did }
 
 pub returns-in-Some-FromG64-clause-counts : goal.returns-in-Some-FromG64-clause-counts
-returns-in-Some-FromG64-clause-counts g c = rw (asked_over c.args.words.now (an_image_of_g64 c.in-Some-FromG64.disk) (rw c.in-Some-FromG64.field-0-is at c.in-Some-FromG64.ensures)) c.run-in-Some-FromG64.ensures.counts
+returns-in-Some-FromG64-clause-counts g c = counts-asked c.args.words.now (an_image_of_g64 c.in-Some-FromG64.disk) (rw c.in-Some-FromG64.field-0-is at c.in-Some-FromG64.ensures) c.run-in-Some-FromG64.ensures.counts
 
 pub returns-in-Some-Tell-clause-ran : goal.returns-in-Some-Tell-clause-ran
 returns-in-Some-Tell-clause-ran g c = record { asked = Some (a_page c.in-Some-Tell.page); asks = (rw c.in-Some-Tell.field-0-is at c.in-Some-Tell.ensures); did = c.run-in-Some-Tell.ensures.did }
 
 pub returns-in-Some-Tell-clause-counts : goal.returns-in-Some-Tell-clause-counts
-returns-in-Some-Tell-clause-counts g c = rw (asked_over c.args.words.now (a_page c.in-Some-Tell.page) (rw c.in-Some-Tell.field-0-is at c.in-Some-Tell.ensures)) c.run-in-Some-Tell.ensures.counts
+returns-in-Some-Tell-clause-counts g c = counts-asked c.args.words.now (a_page c.in-Some-Tell.page) (rw c.in-Some-Tell.field-0-is at c.in-Some-Tell.ensures) c.run-in-Some-Tell.ensures.counts

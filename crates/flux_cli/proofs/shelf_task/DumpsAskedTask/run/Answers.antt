@@ -1,4 +1,4 @@
-use Rattle.std.proofs.Common.{true, [], ap, refl}
+use Rattle.std.proofs.Common.{false, true, [], ap, refl}
 use Rattle.flux_engine.specs.Room.{RoomState}
 use Rattle.flux_words.specs.DumpWords.{asked_dumps}
 use Rattle.flux_cli.specs.AskedDisks.{asked_disk}
@@ -12,13 +12,14 @@ returns-in-Ok-clause-did g c = (
   in_room c.args.self.now.shown (asked_disk (asked_dumps c.args.self.now)) _ _ c.in-Ok.room.format c.show.result (ap (λ (room : RoomState). room.format) c.in-Ok.ensures)
       c.show.ensures.did,
   refl,
+  refl,
 )
 
 pub returns-in-Ok-clause-counts : goal.returns-in-Ok-clause-counts
 returns-in-Ok-clause-counts g c = run-of-shelf true c.show.result c.show.ensures.no_source c.show.ensures.blames
 
 pub returns-in-Err-clause-did : goal.returns-in-Err-clause-did
-returns-in-Err-clause-did g c = (record { answer = tt; says = refl; keeps = ([], none-failed _) }, refl)
+returns-in-Err-clause-did g c = (record { answer = tt; says = refl; keeps = ([], none-failed _) }, refl, refl)
 
 pub returns-in-Err-clause-counts : goal.returns-in-Err-clause-counts
-returns-in-Err-clause-counts g c = memoryless true _ _ _ _
+returns-in-Err-clause-counts g c = memoryless true false _ _ _ _ _

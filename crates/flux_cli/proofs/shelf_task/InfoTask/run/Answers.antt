@@ -1,4 +1,4 @@
-use Rattle.std.proofs.Common.{true, [], ◌∷◌, refl, subst}
+use Rattle.std.proofs.Common.{false, true, [], ◌∷◌, refl, subst}
 use Rattle.flux_cli.proofs.Blaming.{CountsBy-noteless, memoryless, run-of-shelf}
 use Rattle.flux_cli.proofs.EndingLaws.{dumps-blame, shelf-over-shelf}
 use Rattle.flux_cli.proofs.InfoRun.{info-answers, info-done, info-failed}
@@ -21,6 +21,7 @@ returns-in-Ok-clause-did g c =
         keeps = (failed.paths, failed.told);
       },
       refl,
+      refl,
     )
 
 pub returns-in-Ok-clause-counts : goal.returns-in-Ok-clause-counts
@@ -32,7 +33,7 @@ returns-in-Ok-clause-counts g c =
     (dumps-blame _ _ info_status info-done failed.often failed.many c.end_of_info.result _ _ answer.result failed.fails (CountsBy-noteless _ _ answer.ensures.blames) c.end_of_info.ensures)
 
 pub returns-in-Err-clause-did : goal.returns-in-Err-clause-did
-returns-in-Err-clause-did g c = (record { answer = tt; says = refl; keeps = ([], none-failed _) }, refl)
+returns-in-Err-clause-did g c = (record { answer = tt; says = refl; keeps = ([], none-failed _) }, refl, refl)
 
 pub returns-in-Err-clause-counts : goal.returns-in-Err-clause-counts
-returns-in-Err-clause-counts g c = memoryless true _ _ _ _
+returns-in-Err-clause-counts g c = memoryless true false _ _ _ _ _

@@ -16,15 +16,16 @@ returns-in-Ok-clause-did g c =
       file-ended _ _ _ c.end_of_file.result c.args.self.now.disk c.from_g64-answer.result _ _ e.notes_later (λ x told. file-reads e.needed)
           (rw is at e.read) e.cause c.end_of_file.ensures,
       refl,
+      refl,
     )
 
 pub returns-in-Err-clause-did : goal.returns-in-Err-clause-did
-returns-in-Err-clause-did g c = (out_of_memory (from_g64_work (format_of c.args.self.now.disk)) tt _, refl)
+returns-in-Err-clause-did g c = (out_of_memory (from_g64_work (format_of c.args.self.now.disk)) tt _, refl, refl)
 
 pub returns-in-Ok-clause-counts : goal.returns-in-Ok-clause-counts
 returns-in-Ok-clause-counts g c =
-    run-of-source false c.end_of_file.result (no-shelf (returns-in-Ok-clause-did g c).0 (λ never. never))
+    run-of-source false false c.end_of_file.result (no-shelf (returns-in-Ok-clause-did g c).0 (λ never. never))
     (ends-blame source_blame refl refl _ c.end_of_file.result _ _ (file-blame c.from_g64-answer.result c.from_g64-answer.ensures.blames) c.end_of_file.ensures)
 
 pub returns-in-Err-clause-counts : goal.returns-in-Err-clause-counts
-returns-in-Err-clause-counts g c = memoryless false _ _ _ _
+returns-in-Err-clause-counts g c = memoryless false false _ _ _ _ _

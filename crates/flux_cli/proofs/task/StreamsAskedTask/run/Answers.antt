@@ -11,7 +11,7 @@ pub decode_by_plan-requires-clause-few : goal.decode_by_plan-requires-clause-few
 decode_by_plan-requires-clause-few g c = subst (λ (p : Plan). p.captures ≤ 16) (sym c.plan_of-plan.ensures) (way_asked c.args.self.now.way c.requires).most
 
 pub returns-clause-did : goal.returns-clause-did
-returns-clause-did g c = (rw c.plan_of-plan.ensures at c.decode_by_plan.ensures.does, refl)
+returns-clause-did g c = (rw c.plan_of-plan.ensures at c.decode_by_plan.ensures.does, refl, refl)
 
 pub returns-clause-counts : goal.returns-clause-counts
-returns-clause-counts g c = run-of-source false c.decode_by_plan.result (no-shelf c.decode_by_plan.ensures.does (λ never. never)) c.decode_by_plan.ensures.blames
+returns-clause-counts g c = run-of-source false false c.decode_by_plan.result (no-shelf c.decode_by_plan.ensures.does (λ never. never)) c.decode_by_plan.ensures.blames

@@ -18,15 +18,16 @@ returns-in-Ok-clause-did g c =
       image-ended _ _ _ c.end_of_image.result _ (g64_file format) format
           (λ x told. image-reads format (rw is at e.needed)) c.to_g64.result (rw is at e.wrote) e.cause c.end_of_image.ensures,
       refl,
+      refl,
     )
 
 pub returns-in-Err-clause-did : goal.returns-in-Err-clause-did
-returns-in-Err-clause-did g c = (out_of_memory (to_g64_work (format_of c.args.self.now.disk)) tt _, refl)
+returns-in-Err-clause-did g c = (out_of_memory (to_g64_work (format_of c.args.self.now.disk)) tt _, refl, refl)
 
 pub returns-in-Ok-clause-counts : goal.returns-in-Ok-clause-counts
 returns-in-Ok-clause-counts g c =
-    run-of-source false c.end_of_image.result (no-shelf (returns-in-Ok-clause-did g c).0 (λ never. never))
+    run-of-source false false c.end_of_image.result (no-shelf (returns-in-Ok-clause-did g c).0 (λ never. never))
     (ends-blame source_blame refl refl _ c.end_of_image.result _ _ (image-blame c.to_g64.result (CountsBy-noteless _ _ c.to_g64.ensures.blames)) c.end_of_image.ensures)
 
 pub returns-in-Err-clause-counts : goal.returns-in-Err-clause-counts
-returns-in-Err-clause-counts g c = memoryless false _ _ _ _
+returns-in-Err-clause-counts g c = memoryless false false _ _ _ _ _

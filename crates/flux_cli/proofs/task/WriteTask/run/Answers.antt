@@ -16,15 +16,16 @@ returns-in-Ok-clause-did g c =
       image-ended _ _ _ c.end_of_image.result _ (streams_of format) format
           (λ x told. image-reads format (rw c.in-Ok.ensures at e.needed)) c.write_disk.result (rw c.in-Ok.ensures at e.wrote) e.cause c.end_of_image.ensures,
       refl,
+      refl,
     )
 
 pub returns-in-Err-clause-did : goal.returns-in-Err-clause-did
-returns-in-Err-clause-did g c = (out_of_memory (write_work c.args.self.now.format) tt _, refl)
+returns-in-Err-clause-did g c = (out_of_memory (write_work c.args.self.now.format) tt _, refl, refl)
 
 pub returns-in-Ok-clause-counts : goal.returns-in-Ok-clause-counts
 returns-in-Ok-clause-counts g c =
-    run-of-source false c.end_of_image.result (no-shelf (returns-in-Ok-clause-did g c).0 (λ never. never))
+    run-of-source false false c.end_of_image.result (no-shelf (returns-in-Ok-clause-did g c).0 (λ never. never))
     (ends-blame source_blame refl refl _ c.end_of_image.result _ _ (image-blame c.write_disk.result (CountsBy-noteless _ _ c.write_disk.ensures.blames)) c.end_of_image.ensures)
 
 pub returns-in-Err-clause-counts : goal.returns-in-Err-clause-counts
-returns-in-Err-clause-counts g c = memoryless false _ _ _ _
+returns-in-Err-clause-counts g c = memoryless false false _ _ _ _ _

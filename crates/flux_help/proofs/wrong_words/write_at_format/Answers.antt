@@ -2,7 +2,7 @@ use Rattle.std.proofs.Common.{◌≡◌, ◌∙◌, List, Option, Some, ℕ, ap,
 use Rattle.flux_base.specs.Moments.{Puts}
 use Rattle.flux_base.specs.World.{sink_at}
 use Rattle.flux_help.specs.WrongWords.{format_word, told_by}
-use Rattle.flux_help.proofs.wrong_words.write_behind.Goals as goal
+use Rattle.flux_help.proofs.wrong_words.write_at_format.Goals as goal
 
 pub returns-in-Some : goal.returns-in-Some
 returns-in-Some g c =
