@@ -6,7 +6,8 @@ use Rattle.flux_base.specs.declared.outside.Failed.{Failed}
 use Rattle.flux_base.specs.declared.status.Status.{Status}
 use Rattle.flux_base.specs.declared.status.Status.TheVariants.{AllGood, NotAllGood, Refused, Usage, ReadFault, ImageFault, NotesFault, Memory, ShelfFault}
 use Rattle.flux_base.specs.lemmas.Counting.{Counts-then}
-use Rattle.flux_cli.specs.Blamed.{CountsOfNotes, CountsOfRun, all_counts, AllCounts, tells_unmade}
+use Rattle.flux_base.specs.Blames.{is_notes}
+use Rattle.flux_cli.specs.Blamed.{CountsOfNotes, CountsOfRun, all_counts, AllCounts, source_blame, tells_unmade}
 use Rattle.flux_cli.specs.OutputTold.{RanAndTold, ToldIf, failed_output_text, is_told, tells_faults, with_notes}
 use Rattle.flux_words.specs.Asked.{Asked, the_turns, some_streams, a_folder, some_dumps, a_sector, an_identity, told_files, written_streams, written_files, a_trial, a_g64_file, an_image_of_g64, a_page}
 use Rattle.flux_cli.specs.ShelfRuns.{Ran}
@@ -61,11 +62,11 @@ module _ {N : Type 0} (words : List (List ℕ)) (left after : Moment N) where
 
 -- the notes before the line failed no less often than at first
 pub notes-later : (dumps makes : Bool) (status : Status) (before after : AllCounts) → CountsOfRun dumps makes false status before after → before.notes.faults ≤ after.notes.faults
-notes-later dumps makes status before after counts = by (tells_unmade makes status || false) counts.notes
+notes-later dumps makes status before after counts = by (tells_unmade makes status || false) (is_notes (source_blame status)) counts.notes
   where
-    by : {fails : Bool} (told : Bool) → CountsOfNotes told fails before.notes after.notes → before.notes.faults ≤ after.notes.faults
-    by false c = c.later
-    by true c = c.1.later
+    by : (told fails : Bool) → CountsOfNotes told fails before.notes after.notes → before.notes.faults ≤ after.notes.faults
+    by false fails c = c.later
+    by true fails c = c.1.later
 
 -- what was known of work that a fault of the output cut, is known of it behind the line
 output-known : {A V W N : Type 0} (ends cuts : Status → Type 0) (Known : (start now : V) → Outcome → Type 0) (before : Outside A V W N) (input : InputMoment A V) (image : Moment W) (left notes : Moment N)
