@@ -65,6 +65,11 @@ const ROWS: &[Row] = &[
         ..NO_STREAM
     },
     NO_IMAGE,
+    // No file is looked for, and nothing is made.
+    Row {
+        words: &["write", "--folder", "out", "amiga"],
+        ..NO_IMAGE
+    },
     // A read and the write of the line that fail leave nothing.
     Row {
         name: "an image of another size, and a read fails",
