@@ -21,7 +21,7 @@ use Rattle.sector_images.specs.Places.{IsTrack, TracksKeepBounds, tracks}
 use Rattle.sector_images.specs.declared.format.Format.{Format}
 use Rattle.track_shelf.specs.Files.{File, file_of}
 use Rattle.track_shelf.specs.Names.{file_name_text, folder_path}
-use Rattle.disk_files.specs.Answers.{IsCutAt, first_there, with_folder_of}
+use Rattle.disk_files.specs.Answers.{IsCutAt, first_there}
 use Rattle.disk_files.specs.Files.{DiskFolder, disk_file, first_files, info_block}
 
 module _ {X : Type 0} (test : X → Bool) where
@@ -148,14 +148,6 @@ module _ (disk : DiskFolder) (image : List ℕ) where
         cut.2 ∙ ap (option_map (with_files (front ∷ []))) is ∙ more_files (first_files disk image number) (front ∷ []) made,
       )
 
--- their folder was made before them
-pub with-folder : (folder : List ℕ) (files : List File) (made before now : Option Made) (made_it : Unit {0}) → before ≡ option_map (made_folder folder (Ok made_it)) made
-    → now ≡ option_map (with_files files) before → now ≡ option_map (with_folder_of folder files) made
-with-folder folder files made before now made_it is grew = grew ∙ ap (option_map (with_files files)) is ∙ by made
-  where
-    by : (m : Option Made) → option_map (with_files files) (option_map (made_folder folder (Ok made_it)) m) ≡ option_map (with_folder_of folder files) m
-    by None = refl
-    by (Some told) = refl
-
+-- their folder was not made
 pub no-folder : (folder : List ℕ) (made now : Option Made) (failed : Failed) → now ≡ option_map (made_folder folder (Err failed)) made → now ≡ made
 no-folder folder made now failed is = is ∙ option_map_id made

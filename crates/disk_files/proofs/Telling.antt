@@ -5,6 +5,7 @@ use Rattle.std.specs.Io.KnownBytes.{Consumes, IsAtEnd}
 use Rattle.std.specs.Option.{option_map}
 use Rattle.file_maker.specs.Made.{Made, made_folder}
 use Rattle.file_maker.specs.Makes.{with_files}
+use Rattle.file_maker.specs.lemmas.Making.{made_in}
 use Rattle.flux_base.specs.declared.outside.Failed.{Failed}
 use Rattle.flux_engine.specs.Writes.{IsWholeImage, most_read}
 use Rattle.sector_images.specs.Formats.{row}
@@ -13,7 +14,7 @@ use Rattle.sector_images.specs.declared.format.Format.{Format}
 use Rattle.disk_files.specs.Answers.{IsFirstThere, MakesFiles, WritesFiles}
 use Rattle.disk_files.specs.Files.{DiskFolder, disk_files}
 use Rattle.disk_files.specs.declared.fault.FilesFault.TheVariants.{Exists, FileFault, FolderFault}
-use Rattle.disk_files.proofs.Making.{no-folder, with-folder}
+use Rattle.disk_files.proofs.Making.{no-folder}
 
 -- as many bytes were read as an image has, into room for one more
 pub whole-image : (format : Format) (buffer : List ℕ) (read : ℕ) (left' : Option (List ℕ)) → length buffer ≡ most_read format → read ≡ (row format).image_size
@@ -43,11 +44,11 @@ module _ (disk : DiskFolder) (image : List ℕ) (left left' : Option (List ℕ))
     module _ (before made' : Option Made) (it : Unit {0}) (is : before ≡ option_map (made_folder disk.folder (Ok it)) made) where
       pub says-all : made' ≡ option_map (with_files (disk_files disk image)) before → WritesFiles disk left left' made made' (Ok it)
       says-all grew =
-          record { taken = image; consumed = consumed; says = (whole, none, with-folder disk.folder (disk_files disk image) made before made' it is grew) }
+          record { taken = image; consumed = consumed; says = (whole, none, made_in disk.folder (disk_files disk image) made before made' it is grew) }
 
       pub says-file : (k : ℕ) → MakesFiles disk image before made' (Err k) → WritesFiles disk left left' made made' (Err (FileFault k))
       says-file k cut = record {
         taken = image;
         consumed = consumed;
-        says = (whole, none, cut.0, cut.1, cut.2, with-folder disk.folder cut.1 made before made' it is cut.3);
+        says = (whole, none, cut.0, cut.1, cut.2, made_in disk.folder cut.1 made before made' it is cut.3);
       }

@@ -4,8 +4,8 @@ use Rattle.std.specs.Prelude.{Option, Some, None, Result, Ok, Err}
 use Rattle.std.specs.Io.KnownBytes.{Consumes}
 use Rattle.std.specs.List.{position_from}
 use Rattle.std.specs.Option.{is_some}
-use Rattle.file_maker.specs.Made.{Made, with_folder}
-use Rattle.file_maker.specs.Makes.{front_of, with_files}
+use Rattle.file_maker.specs.Made.{Made}
+use Rattle.file_maker.specs.Makes.{MakesIn, front_of, with_files}
 use Rattle.flux_engine.specs.Writes.{IsNoImage, IsWholeImage}
 use Rattle.sector_images.specs.Formats.{row}
 use Rattle.sector_images.specs.Places.{tracks}
@@ -29,12 +29,6 @@ abbrev pub IsFirstThere : Option Made → DiskFolder → Option ℕ → Type 0
 IsFirstThere made disk first =
     (told : Made) → made ≡ Some told → first_there told.files disk.folder disk.format ≡ first
 
--- files were made behind those that were there, and before them their
--- folder, where it was not there
-abbrev pub with_folder_of : (folder : List ℕ) → List File → Made → Made
-with_folder_of folder files made =
-    record { folders = with_folder folder made.folders; files = made.files ++ files; opened = made.opened }
-
 -- These are the files of the tracks before number k, and nothing of its own, or a front
 -- of it that is shorter than it.
 abbrev pub IsCutAt : DiskFolder → (image : List ℕ) → (k : ℕ) → List File → Type 0
@@ -42,10 +36,6 @@ IsCutAt disk image k files =
     (files ≡ first_files disk image k)
     ⊎ ((n : ℕ) × (n < length (disk_file disk image k).bytes)
     × (files ≡ first_files disk image k ++ front_of n (disk_file disk image k) ∷ []))
-
--- they were made of an image
-abbrev pub MadeOf : DiskFolder → List File → (made made' : Option Made) → Type 0
-MadeOf disk files made made' = made' ≡ option_map (with_folder_of disk.folder files) made
 
 -- the files of all tracks were made, or that of the track of this number failed
 abbrev pub MakesFiles : DiskFolder → (image : List ℕ) → (made made' : Option Made)
@@ -62,11 +52,11 @@ abbrev pub SaysOfFiles : DiskFolder → (taken : List ℕ) → (left' : Option (
     → (made made' : Option Made) → Answer → Type 0
 SaysOfFiles disk taken left' made made' (Ok _) =
     IsWholeImage disk.format taken left' × IsFirstThere made disk None
-    × MadeOf disk (disk_files disk taken) made made'
+    × MakesIn disk.folder (disk_files disk taken) made made'
 SaysOfFiles disk taken left' made made' (Err (FileFault k)) =
     IsWholeImage disk.format taken left' × IsFirstThere made disk None
     × (k < length (tracks disk.format))
-    × (files : List File) × IsCutAt disk taken k files × MadeOf disk files made made'
+    × (files : List File) × IsCutAt disk taken k files × MakesIn disk.folder files made made'
 SaysOfFiles disk taken left' made made' (Err FolderFault) =
     IsWholeImage disk.format taken left' × IsFirstThere made disk None × (made' ≡ made)
 SaysOfFiles disk taken left' made made' (Err (Exists k)) =

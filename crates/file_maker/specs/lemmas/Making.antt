@@ -7,8 +7,8 @@ use Rattle.std.specs.Io.KnownBytes.{Appends}
 use Rattle.flux_base.specs.Outside.{AppendsPart}
 use Rattle.flux_base.specs.declared.outside.Failed.{Failed}
 use Rattle.track_shelf.specs.Files.{File}
-use Rattle.file_maker.specs.Made.{IsNew, Made, file_with, made_close}
-use Rattle.file_maker.specs.Makes.{MakesFile, with_files}
+use Rattle.file_maker.specs.Made.{IsNew, Made, file_with, made_close, made_folder}
+use Rattle.file_maker.specs.Makes.{MakesFile, MakesIn, with_files, with_folder_of}
 
 -- the file of a path is open
 abbrev pub with_opened : (path : List ℕ) → Made → Made
@@ -65,3 +65,15 @@ pub more_files : (xs ys : List File) (made : Option Made)
 more_files xs ys None = refl
 more_files xs ys (Some told) =
     ap (λ (files : List File). Some (record told { files = files })) (append_assoc told.files xs ys)
+
+-- the folder was made before them
+pub made_in : (folder : List ℕ) (files : List File) (made before now : Option Made) (u : Unit {0})
+    → before ≡ option_map (made_folder folder (Ok u)) made
+    → now ≡ option_map (with_files files) before → MakesIn folder files made now
+made_in folder files made before now u is grew = grew ∙ ap (option_map (with_files files)) is ∙ by made
+  where
+    by : (m : Option Made)
+        → option_map (with_files files) (option_map (made_folder folder (Ok u)) m)
+        ≡ option_map (with_folder_of folder files) m
+    by None = refl
+    by (Some told) = refl
