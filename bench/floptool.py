@@ -59,7 +59,7 @@ NAMED = [
     ("trd", "trd", 655360, 300, 1, "mfm-dd-80x2x16x256"), ("mgt", "mgt", 819200, 300, 1, "atari-st-800"),
     ("adfs_n", "adf", 819200, 300, 1, "mfm-dd-80x2x5x1024@0"), ("jvc", "dsk", 161280, 300, 1, "mfm-dd-35x1x18x256"),
     ("rx50", "img", 409600, 300, 1, "mfm-dd-80x1x10x512"), ("kaypro2", "kay", 204800, 300, 1, "mfm-dd-40x1x10x512@0"),
-    ("ti99", "dsk", 92160, 300, 2, "--double-step fm-sd-40x1x9x256@0"), ("thomson_525", "fd", 81920, 300, 1, "fm-sd-40x1x16x128"),
+    ("ti99", "dsk", 92160, 300, 1, "--double-step fm-sd-40x1x9x256@0"), ("thomson_525", "fd", 81920, 300, 1, "fm-sd-40x1x16x128"),
     ("oric_jasmin", "dsk", 178432, 300, 1, "mfm-dd-41x1x17x256"), ("opd", "opd", 184320, 300, 1, "mfm-dd-40x1x18x256@0"),
     ("kc85", "img", 819200, 300, 1, "mfm-dd-80x2x5x1024"), ("abc800", "dsk", 163840, 300, 1, "mfm-dd-40x1x16x256"),
     ("esq8", "img", 450560, 300, 1, "mfm-dd-80x1x5x1024@0"), ("esq16", "img", 819200, 300, 1, "mfm-dd-80x2x10x512@0"),

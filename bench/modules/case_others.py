@@ -8,6 +8,8 @@ from case_tracks import captured, holed, random_data, sector, times_of
 from plain_dumps import MOST_TOLD
 from plain_recordings import MfmList, fm, gcr, raw, word
 
+# FM's data marks
+MARKS = {0xFB: 0xF56F, 0xF8: 0xF56A}
 # The size code behind which no data are looked for, and how many bytes are written there all the same
 NO_SIZE, BYTES_OF_NO_SIZE = 7, 1000
 
@@ -21,9 +23,9 @@ def mfm(fill):
     return out.cells()
 
 
-def ibm_mfm(name, data, inside):
+def ibm_mfm(name, data, inside, mark=0xFB):
     header = mfm(lambda out: out.bytes(recordings.checked(b"\xa1" * 3, bytes([0xFE, *name]))))
-    content = recordings.checked(b"\xa1" * 3, b"\xfb" + data)
+    content = recordings.checked(b"\xa1" * 3, bytes([mark]) + data)
 
     def with_marks(out):
         # where a header stands inside the data, its first bytes A1 are marks
@@ -36,12 +38,12 @@ def ibm_mfm(name, data, inside):
     return header, MfmList().bytes(b"\x4e" * 22).cells(), mfm(with_marks)
 
 
-def ibm_fm(name, data, inside):
+def ibm_fm(name, data, inside, mark=0xFB):
     header = fm(bytes(6)) + word(0xF57E) + fm(recordings.checked(b"\xfe", bytes(name)))
-    content = fm(recordings.checked(b"\xfb", data))
+    content = fm(recordings.checked(bytes([mark]), data))
     if inside is not None:
         content = content[: 16 * inside] + word(0xF57E) + content[16 * inside + 16 :]
-    return header, fm(b"\xff" * 11 + bytes(6)), word(0xF56F) + content + fm(b"\xff" * 20)
+    return header, fm(b"\xff" * 11 + bytes(6)), word(MARKS[mark]) + content + fm(b"\xff" * 20)
 
 
 def amiga(name, data, inside):
@@ -107,9 +109,9 @@ def lone_header(form, name):
     return header + (between or "10" * 32)
 
 
-def with_data(form, name, content, inside=None):
-    """A header and these data; inside them a header's first byte may stand at a place."""
-    return "".join(PIECES[type(form.recording)](name, content, inside))
+def with_data(form, name, content, inside=None, **more):
+    """A header and these data; inside them a header's first byte may stand at a place. Of IBM's recordings the data's mark may be told."""
+    return "".join(PIECES[type(form.recording)](name, content, inside, **more))
 
 
 def with_whole_data(chance, form, name, size=None):

@@ -5,6 +5,7 @@ import plain
 import plain_commands
 from case_dumps import case_folder, case_identify, case_info, case_numbers, case_others, case_read, case_show, few
 from case_files import case_split, case_write_files
+from case_imd import case_imd
 from case_streams import FILLER, SHORTEST, faulty, few_blocks, one_in, spell, too_long
 from case_tracks import noisy_track, random_data, track_stream, whole_track
 from plain import FORMATS
@@ -151,7 +152,7 @@ def case_words(chance, kinds, built):
     kinds.add("words")
     form = plain.any_format(chance).word.encode()
     command = chance.choice([b"turns", b"decode", b"report", b"write", b"trial", b"to-g64", b"from-g64", b"decode-set", b"rescue",
-                             b"map", b"read", b"identify", b"info", b"TURNS", b"", b"-x"])
+                             b"map", b"read", b"identify", b"info", b"imd", b"TURNS", b"", b"-x"])
     number = chance.choice([b"1", b"", b"4294967296", b"99999999999", b"00000000001", b"+1", b"-1", b" 1", b"1 ", b"0x1", b"1.0", "\u0661".encode(),
                             b"17", b"0", b"00", b"016", b"1a"])
     words = chance.choice([
@@ -254,6 +255,7 @@ TABLE = [
     ("dumps to be named", 30, case_identify, b"identify"),
     ("dumps to be numbered", 20, case_numbers, plain_commands.BY_NUMBERS),
     ("turns of dumps", 100, case_info, b"info"),
+    ("disks without a format", 60, case_imd, b"imd"),
     ("images as files", 60, case_write_files, plain_commands.WRITE_FOLDER),
     ("streams to be cut apart", 150, case_split, b"split"),
     ("trials", 8, case_trial, b"trial"),

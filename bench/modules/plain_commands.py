@@ -7,6 +7,7 @@ from collections import Counter
 
 import plain_dumps
 import plain_identity
+import plain_imd
 import plain_info
 from plain import FORMATS, decoded, from_g64, g64_file, stream_of, trial_line, unfit, wrong_size
 from plain_dumps import Dumps, Shelf
@@ -129,6 +130,15 @@ def dumps_asked(words):
     return b"--picture" in options, steps, form, names
 
 
+def disk_asked(words):
+    """What words ask of any disk as it is found, if they ask for it: the steps that the drive made for one, and the dumps' names."""
+    if words[:1] != [b"imd"]:
+        return None
+    steps = 2 if words[1:2] == [b"--double-step"] else 1
+    names = words[steps:]
+    return (steps, names) if 1 <= len(names) <= plain_dumps.MOST_DUMPS and b"" not in names else None
+
+
 def sector_asked(words):
     """What words ask of a sector of dumps, if they ask for it: the steps that the drive made for one, the content that is asked for alone, the
     format, the number of the track, the sector and the dumps' names."""
@@ -165,7 +175,7 @@ def track_named(form, word):
 # word in its place is told by itself.
 OWN_USAGES = {
     b"read": b"usage: flux read [--picture] [--double-step] FORMAT DUMP...", b"identify": b"usage: flux identify DUMP",
-    b"info": b"usage: flux info DUMP",
+    b"info": b"usage: flux info DUMP", b"imd": b"usage: flux imd [--double-step] DUMP...",
     b"show": b"usage: flux show [--double-step] [--copy N] FORMAT TRACK SECTOR DUMP...",
     b"rescue": b"usage: flux rescue FORMAT", b"map": b"usage: flux map FORMAT", b"split": b"usage: flux split FOLDER HEADS",
 }
@@ -239,6 +249,9 @@ def outcome(words, data, built, usage):
         return plain_dumps.show(Dumps(Shelf(files), names, steps), form, k, sector, alone)
     if words[:1] == [b"identify"] and b"identify" in built and len(words) == 2 and words[1]:
         return plain_identity.identify(Shelf(files), words[1], BY_NUMBERS in built)
+    if words[:1] == [b"imd"] and b"imd" in built and (asked := disk_asked(words)):
+        steps, names = asked
+        return plain_imd.imd(Dumps(Shelf(files), names, steps))
     if words[:1] == [b"info"] and b"info" in built and len(words) == 2 and words[1]:
         return plain_info.info(Shelf(files), words[1])
     if words and words[0] in COMMANDS and words[0] in built:

@@ -78,6 +78,12 @@ def path_of(dump, cylinder, head):
     return dump[:-FILE_ENDING] + ending if names_file(dump) else dump + b"/track" + ending
 
 
+def all_tracks(there):
+    """All tracks to the greatest cylinder and the greatest head of those that are there."""
+    cylinders, heads = (1 + max(numbers) for numbers in zip(*there)) if there else (0, 0)
+    return [(cylinder, head) for cylinder in range(cylinders) for head in range(heads)]
+
+
 def no_files_line(dumps, number):
     """What is told of a dump that has none of the files: of a path of more than 100 bytes the last ones."""
     path = dumps.names[number]
@@ -129,28 +135,37 @@ class Dumps:
         return path_of(self.names[number], self.steps * track[0], track[1])
 
     def first_empty(self, form):
+        """The number of the first dump that has the file of none of the format's tracks, or None."""
+        return self.first_without(form.tracks)
+
+    def first_without(self, tracks):
         """The number of the first dump that has the file of none of the tracks, or None."""
         for number in range(len(self.names)):
-            if not any(self.shelf.has(self.path(number, track)) for track in form.tracks):
+            if not any(self.shelf.has(self.path(number, track)) for track in tracks):
                 return number
         return None
 
-    def gathered(self, form, track, near, wanted=True):
-        """Of a track, as another is read: what is said of each stream that is passed over, all readings, and all others."""
-        passed, entries, others = [], [], []
+    def streams(self, track):
+        """Of a track, what is said of each stream that is passed over, and all others, each with its dump's number."""
+        passed, streams = [], []
         for number in range(len(self.names)):
             try:
                 content = self.shelf.read(self.path(number, track))
-                stream = None if content is None else Stream(content, 0)
+                if content is None:
+                    passed.append(f"dump {number} missing")
+                else:
+                    streams.append((number, Stream(content, 0)))
             except Failed:
                 passed.append(f"dump {number} failed")
-                continue
             except Refused as stop:
                 passed.append(f"dump {number} refused {stop.text()}")
-                continue
-            if stream is None:
-                passed.append(f"dump {number} missing")
-                continue
+        return passed, streams
+
+    def gathered(self, form, track, near, wanted=True):
+        """Of a track, as another is read: what is said of each stream that is passed over, all readings, and all others."""
+        entries, others = [], []
+        passed, streams = self.streams(track)
+        for number, stream in streams:
             for clock in self.clocks:
                 found, more = read_by_controllers(form, near, stream, clock, f"{number} {clock} ", wanted)
                 entries += found

@@ -1,5 +1,5 @@
 """What the files of a dump tell without any format, off the definitions: how many bytes, transitions and turns each has, and how fast it turned."""
-from plain_dumps import Dumps, Failed, no_files_line, path_of
+from plain_dumps import Dumps, Failed, all_tracks, no_files_line, path_of
 from plain_streams import Refused, Stream
 
 MOST_CYLINDERS = 99
@@ -46,11 +46,7 @@ def read_file(shelf, path):
 
 def tracks_of(shelf, name):
     """All tracks to the greatest cylinder and the greatest head of which there is a file."""
-    there = [(cylinder, head) for cylinder in range(MOST_CYLINDERS) for head in (0, 1) if shelf.has(path_of(name, cylinder, head))]
-    if not there:
-        return []
-    cylinders, heads = (1 + max(numbers) for numbers in zip(*there))
-    return [(cylinder, head) for cylinder in range(cylinders) for head in range(heads)]
+    return all_tracks([(cylinder, head) for cylinder in range(MOST_CYLINDERS) for head in (0, 1) if shelf.has(path_of(name, cylinder, head))])
 
 
 def turn_lines(means):

@@ -99,9 +99,13 @@ class Recording:
         """How many bytes the data of a header with this name have."""
         return self.size
 
+    def next_header(self, cells, end):
+        """The place of the first header within reach, or the end of the cells."""
+        return next((other for other in in_reach(cells, end, [self.sync]) if self.name(cells, other)), len(cells))
+
     def placed_data(self, cells, place, end, size):
         """All data of the header at the place by the second rule, as controllers read: at each sync up to the next header, with its place."""
-        nearest = next((other for other in in_reach(cells, end, [self.sync]) if self.name(cells, other)), len(cells))
+        nearest = self.next_header(cells, end)
         for q in self.data_places(cells, end):
             held = self.content(cells, place, q, size) if q <= nearest else None
             if held and unbroken(cells, q, held[1]) and not started_anew(cells, place, held[1]):
@@ -140,8 +144,12 @@ class IbmFm(Recording):
     def size_of(self, name):
         return ibm_size(name)
 
+    def mark(self, cells, q):
+        """The mark of the data that begin at a place."""
+        return self.MARKS[cells[q : q + 16]]
+
     def content(self, cells, place, q, size):
-        mark, field = self.MARKS[cells[q : q + 16]], data_bytes(cells, q + 16, size + 2)
+        mark, field = self.mark(cells, q), data_bytes(cells, q + 16, size + 2)
         if mark not in (0xFB, 0xF8) or field is None or field != checked(bytes([mark]), field[:size]):
             return None
         return field[:size], q + 16 * (size + 3)
@@ -210,6 +218,10 @@ class IbmMfm(Recording):
 
     def size_of(self, name):
         return ibm_size(name)
+
+    def mark(self, cells, q):
+        """The mark of the data that begin at a place."""
+        return data_bytes(cells, q + 48, 1)[0]
 
     def content(self, cells, place, q, size):
         field = data_bytes(cells, q + 48, size + 3)
