@@ -37,7 +37,7 @@ module _ (others : List (List ℕ)) (asked : Asked) where
   keeps_behind Identify p = subst Keeps (sym p.2) tt
   keeps_behind Info p = subst Keeps (sym p.2) tt
   keeps_behind Write (inl p) = subst Keeps (sym p.2) tt
-  keeps_behind Write (inr p) = subst Keeps (sym p.5) tt
+  keeps_behind Write (inr p) = subst Keeps (sym p.5) p.4
   keeps_behind Trial p = subst Keeps (sym p.5) tt
   keeps_behind ToG64 p = subst Keeps (sym p.2) tt
   keeps_behind FromG64 p = subst Keeps (sym p.2) tt

@@ -16,6 +16,7 @@ use Rattle.g64_image.specs.Layout.{IsCommodore}
 use Rattle.g64_image.specs.declared.fault.G64Fault.{G64Fault}
 use Rattle.law_captured_plans.specs.Headline.{CapturedPlansAreNeverWrong, CapturedPlansAreRead, ErasedPlansAreRead, ErasedPlansStandInOnePiece}
 use Rattle.law_captured_plans.specs.Said.{AreRightLines, GoodLinesAreRight, InputsAreShort, TellsSources}
+use Rattle.law_written_dumps.specs.Headline.{WrittenDumpsAreReadWell, WrittenFilesCapture}
 use Rattle.sector_images.specs.declared.format.Format.{Format}
 use Rattle.sector_report.specs.declared.totals.Totals.{Totals}
 use Rattle.turn_merge.specs.declared.verdict.Verdict.TheVariants.{Good}
@@ -46,6 +47,8 @@ pub record Laws : Type 0 where
   pub file_lines : LinesTellInFiles
   pub file_good : GoodIsRightInFiles
   pub trials : WholeTrialsHaveOneLine
+  pub written : WrittenFilesCapture
+  pub written_read : WrittenDumpsAreReadWell
 
 -- what a disk's status is that was not refused
 read_by : (b : Bool) → WasRead (if b then AllGood else NotAllGood)

@@ -25,3 +25,4 @@ pub mod Telling
 pub mod AskedWords
 pub mod FilesTold
 pub mod Making
+pub mod FilesHeadline

@@ -20,6 +20,7 @@ use Rattle.flux_words.specs.declared.commands.Way.TheVariants.{Once}
 use Rattle.flux_words.specs.declared.options.Shown.{Shown}
 use Rattle.flux_words.specs.declared.options.Shown.TheVariants.{Image, Picture as PictureShown}
 use Rattle.flux_cli.proofs.AskedWords.{asked_is, asked_keeps}
+use Rattle.flux_cli.proofs.FilesHeadline.{of_files}
 use Rattle.flux_cli.proofs.Headlines.{Laws, of_g64, of_streams, of_trial, way_asked, IsAsked}
 use Rattle.flux_cli.proofs.ReadHeadline.{DumpLaws, of_read}
 use Rattle.flux_cli.specs.FolderRuns.{Began, DidBy, DoesFolder, RefusesMissing, over_shelf}
@@ -193,7 +194,7 @@ module _ (laws : Laws) (dump_laws : DumpLaws) {S W N H M : Type 0} (status : Sta
   expected (an_identity dump) keeps did = tt
   expected (told_files dump) keeps did = tt
   expected (written_streams format) keeps did = tt
-  expected (written_files format folder) keeps did = tt
+  expected (written_files format folder) keeps did = of_files laws.written laws.written_read format folder keeps before after status did.0
   expected (a_g64_file disk) keeps did = tt
   expected (a_page page) keeps did = tt
 

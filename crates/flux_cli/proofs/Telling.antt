@@ -85,7 +85,7 @@ output_expected before left notes (a_sector asked) did = tt
 output_expected before left notes (an_identity dump) did = tt
 output_expected before left notes (told_files dump) did = tt
 output_expected before left notes (written_streams format) did = tt
-output_expected before left notes (written_files format folder) did = tt
+output_expected before left notes (written_files format folder) did = did
 output_expected before left notes (a_g64_file disk) did = tt
 output_expected before left notes (a_page page) did = tt
 

@@ -1,12 +1,13 @@
 -- What words ask, as the commands take it: what it keeps to; and of dumps each disk is read by both
 -- clocks, and all files of its dumps are looked at.
-use Rattle.std.specs.Prelude.{◌<◌, length}
+use Rattle.std.specs.Prelude.{◌≡◌, ◌<◌, false, length}
 use Rattle.flux_engine.specs.Recordings.{track_at}
 use Rattle.dump_reading.specs.Outcomes.{DumpDisk}
 use Rattle.dump_reading.specs.declared.looks.Looks.TheVariants.{Always}
 use Rattle.flux_engine.specs.declared.plan.Clocks.TheVariants.{Both}
 use Rattle.sector_images.specs.Places.{IsSector, tracks}
-use Rattle.flux_words.specs.Asked.{Asked, some_streams, some_dumps, a_sector}
+use Rattle.track_shelf.specs.Names.{names_file}
+use Rattle.flux_words.specs.Asked.{Asked, some_streams, some_dumps, a_sector, written_files}
 use Rattle.flux_words.specs.Counts.{IsManyCaptures}
 use Rattle.flux_words.specs.DumpWords.{AskedDumps, CanBeRead}
 use Rattle.flux_words.specs.SectorWords.{AskedSector, CanBeShown}
@@ -43,4 +44,5 @@ abbrev pub Keeps : Asked → Type 0
 Keeps (some_streams asked) = IsFew asked.way
 Keeps (some_dumps asked) = CanBeRead asked
 Keeps (a_sector asked) = IsPlaced asked
+Keeps (written_files format folder) = names_file folder ≡ false
 Keeps _ = Unit {0}

@@ -23,6 +23,7 @@ pub mod Endings
 pub mod MakingWork
 pub mod FilesTold
 pub mod FilesWork
+pub mod FilesHeadline
 pub mod ShelfRuns
 pub mod OutputTold
 pub mod ReadHeadline

@@ -2,17 +2,19 @@
 use Rattle.std.specs.Prelude.{◌≡◌, ℕ, List, Some, None}
 use Rattle.dump_reading.specs.Files.{ShelfNow}
 use Rattle.flux_base.specs.declared.status.Status.{Status}
-use Rattle.flux_base.specs.declared.status.Status.TheVariants.{ShelfFault}
+use Rattle.flux_base.specs.declared.status.Status.TheVariants.{AllGood, ShelfFault}
 use Rattle.flux_engine.specs.Plans.{decoding}
 use Rattle.kryo_stream.specs.Reads.{SourceMoment}
 use Rattle.sector_images.specs.declared.format.Format.{Format}
 use Rattle.track_shelf.specs.Files.{File, first_missing, joined}
 use Rattle.flux_words.specs.Asked.{Asked, some_streams, a_folder, some_dumps, a_trial}
-use Rattle.flux_words.specs.Asked.{an_image_of_g64}
+use Rattle.flux_words.specs.Asked.{an_image_of_g64, written_files}
 use Rattle.flux_words.specs.CommandWords.{AreWordsOf}
 use Rattle.flux_words.specs.G64Disks.{format_of}
 use Rattle.flux_cli.specs.AskedDisks.{asked_disk}
 use Rattle.flux_cli.specs.BytesWork.{BytesWork}
+use Rattle.flux_cli.specs.FilesHeadline.{OfWritten}
+use Rattle.flux_cli.specs.FilesWork.{files_of}
 use Rattle.flux_cli.specs.G64Work.{from_g64_work}
 use Rattle.flux_cli.specs.Headlines.{OfFile, OfShown, OfStreams, OfTrial}
 use Rattle.flux_cli.specs.PlanWork.{planned_work}
@@ -90,6 +92,11 @@ Expected (an_image_of_g64 disk) status before after =
 Expected (a_trial format seed) status before after =
     Does (known_bytes (trial_work format seed) (λ x. OfTrial format seed)) status
     (on_source before) (on_source after)
+-- Where `write --folder` made all files they are a dump that captures the image: where it is read
+-- each sector is good, with its own bytes, whatever else lies there.
+Expected (written_files format folder) status before after =
+    status ≡ AllGood → OfWritten (files_of format folder) before.source.seen.left before.maker.made
+    after.maker.made
 -- Of all others their rows say all.
 Expected _ status before after = Unit {0}
 

@@ -20,6 +20,7 @@ use law_captured_dumps::captured_dumps_are_read;
 use law_captured_plans::{captured_plans_are_read, planned_lines_tell};
 use law_read_dumps::{complete_dumps_are_all_read, dump_reports_have_lines, dumps_say_each_sector};
 use law_reported_dumps::dump_lines_tell;
+use law_written_dumps::written_dumps_are_read;
 use std::alloc::Global;
 use track_shelf::Shelf;
 
@@ -78,6 +79,7 @@ pub fn run<S: Source, W: Sink, N: Sink, H: Shelf, M: FileMaker>(
     dump_lines_tell();
     captured_dumps_are_read();
     dumps_are_drawn_as_reported();
+    written_dumps_are_read();
     let status = run_words(alloc, words, source, image, notes, shelf, maker);
     tell_output(words, status, notes);
     status

@@ -20,6 +20,8 @@ laws g c = record {
   file_lines = c.file_lines_tell.ensures.told;
   file_good = c.good_is_right_in_files.ensures;
   trials = c.whole_trials_have_one_line.ensures;
+  written = c.written_dumps_are_read.ensures.capture;
+  written_read = c.written_dumps_are_read.ensures.well;
 }
 
 -- the notes at the end
