@@ -2,6 +2,7 @@ mod beside;
 mod dumps;
 mod files;
 mod identities;
+mod joined;
 mod names;
 mod pictures;
 mod sets;
