@@ -134,16 +134,24 @@ def headers_of_names(form, size):
         room -= len(part)
 
 
+def sector_of(form, byte):
+    """The cells of the first sector that passes, from its header to the next one's, with this byte all over."""
+    cells = form.recording.ring(0, 0, [bytes([byte]) * form.recording.size] * form.recording.sectors(0), (0, 0))
+    places = list(places_of(cells, form.recording.sync))
+    assert form.recording.header(cells, places[0], 0, 0)[0] == form.recording.first
+    return cells[places[0] : next(place for place in places[1:] if form.recording.header(cells, place, 0, 0))]
+
+
 def sectors_of_another_check(form):
     """A whole sector whose data have another check value."""
-    first = form.recording.first
-    cells = form.recording.ring(0, 0, [bytes(form.recording.size)] * form.recording.sectors(0), (0, 0))
-    places = list(places_of(cells, form.recording.sync))
-    start = places[0]
-    end = next(place for place in places[1:] if form.recording.header(cells, place, 0, 0))
-    assert form.recording.header(cells, start, 0, 0)[0] == first
-    turned = start + (end - start) // 2 + (start + (end - start) // 2 + 1) % 2
-    return cells[start:turned] + "10"[int(cells[turned])] + cells[turned + 1 : end]
+    cells = sector_of(form, 0)
+    turned = len(cells) // 2 + (len(cells) // 2 + 1) % 2
+    return cells[:turned] + "10"[int(cells[turned])] + cells[turned + 1 :]
+
+
+def sectors_of_many_contents(form):
+    """A sector again and again, with twenty contents in turn, of which 16 are told."""
+    return "".join(sector_of(form, byte) for byte in range(20))
 
 
 def syncs(form):
@@ -221,6 +229,8 @@ RETRIED = [
 # The same where headers say how many bytes their data have, and names of which few are told.
 LONGEST = ("8192 bytes after headers", repeated(longest_data_after_headers))
 NAMES = ("headers of names that are not told", headers_of_names)
+# What is hard where the contents of a sector are told apart.
+CONTENTS = ("sectors of many contents", repeated(sectors_of_many_contents))
 
 
 def g64_of(size, cells):
@@ -265,14 +275,15 @@ class Table:
         self.rows, self.wrong, self.worst, self.peak = 0, 0, 0, 0
         print(f"{'command':22} {'input':38} {'small':>9} {'large':>9} {'ratio':>6} {'MiB':>6}")
 
-    def row(self, words, name, small, large, most=4.4, other=None, dumps=0):
+    def row(self, words, name, small, large, most=4.4, other=None, dumps=0, beside=()):
         """A row: the command over the small input and over the large one, or another command over the large one. The input is the file of
-        the first track in so many dumps, or what is read where there are none."""
+        the first track in so many dumps, and those of further tracks beside it, or what is read where there are none."""
         with tempfile.TemporaryDirectory(dir=self.work) as folder:
             inputs = Path(folder, "small00.0.raw"), Path(folder, "large00.0.raw")
             runs = [[self.program, *wanted, *dumps * [str(path)]] for wanted, path in zip((words, other or words), inputs)]
             for path, data in zip(inputs, (small, large)):
-                path.write_bytes(data)
+                for track in ("00.0", *beside):
+                    Path(folder, path.name.replace("00.0", track)).write_bytes(data)
             seconds, more = compared(*zip(runs, inputs), self.count)
             peak = max(peak_of(command, path, folder) for command, path in zip(runs, inputs))
         ratio = more / max(seconds, 1e-6)
@@ -318,10 +329,20 @@ def measured(table, wanted):
             for name, make in [LONGEST] * has_codes(form) + [NAMES] + RETRIED + TRACKS + STREAMS:
                 table.row(["read", form.word], name, *(make(form, size) for size in SIZES), dumps=1)
             table.row(["read", form.word], "8 dumps of " + RETRIED[0][0], *(RETRIED[0][1](form, size) for size in SIZES), dumps=8)
+            # (No disk has the track beside: its file is looked at for the names in it.)
+            for name, make in [NAMES] + RETRIED + TRACKS[:1]:
+                table.row(["read", form.word], f"{name}, in two files", *(make(form, size) for size in SIZES), dumps=1, beside=("95.0",))
     if "identify" in wanted:
         for form in (FORMATS[name] for name in USED):
-            for name, make in [LONGEST] * has_codes(form) + RETRIED + TRACKS[:1]:
+            for name, make in [LONGEST] * has_codes(form) + [NAMES] + RETRIED + [TRACKS[0], TRACKS[3], TRACKS[6]]:
                 table.row(["identify"], f"{name}, {form.word}", *(make(form, size) for size in SIZES), dumps=1)
+    if "show" in wanted:
+        for form in (FORMATS[name] for name in USED):
+            for name, make in [CONTENTS] + RETRIED + TRACKS[:4]:
+                table.row(["show", form.word, "0.0", str(form.recording.first)], name, *(make(form, size) for size in SIZES), dumps=1)
+    if "info" in wanted:
+        for name, make in STREAMS:
+            table.row(["info"], name, *(make(FORMATS["ibm-720"], size) for size in SIZES), dumps=1)
     if "decode-set" in wanted:
         for form in (FORMATS[name] for name in USED):
             for name, make in TRACKS[:3]:
