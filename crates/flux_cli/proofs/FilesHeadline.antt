@@ -5,10 +5,11 @@ use Rattle.std.specs.Io.KnownBytes.{Consumes}
 use Rattle.std.specs.Prelude.{option_map}
 use Rattle.std.proofs.KnownBytes.{Consumes-whole}
 use Rattle.std.proofs.lemmas.Bool.Decides.{Decides-ltb}
-use Rattle.disk_files.specs.Answers.{Answer, IsFirstThere, MadeOf, first_there, with_folder_of}
+use Rattle.disk_files.specs.Answers.{Answer, IsFirstThere, first_there}
 use Rattle.disk_files.specs.Files.{DiskFolder, disk_files}
 use Rattle.disk_files.specs.declared.fault.FilesFault.TheVariants.{Exists, FileFault, FolderFault, ReadFault as Unread, WrongSize}
 use Rattle.file_maker.specs.Made.{Made}
+use Rattle.file_maker.specs.Makes.{MakesIn, with_folder_of}
 use Rattle.flux_base.specs.declared.status.Status.{Status}
 use Rattle.flux_base.specs.declared.status.Status.TheVariants.{AllGood, Memory, ReadFault, ShelfFault}
 use Rattle.flux_engine.specs.Rings.{IsImage}
@@ -44,7 +45,7 @@ module _ (captured : WrittenFilesCapture) (well : WrittenDumpsAreReadWell) (form
 
   -- what was taken is all that the source had to give
   of_taken : (left left' : Option (List ℕ)) (made made' : Option Made) (taken : List ℕ) → Consumes left left' taken → IsWholeImage format taken left' → IsFirstThere made target None
-      → MadeOf target (disk_files target taken) made made' → OfWritten target left made made'
+      → MakesIn folder (disk_files target taken) made made' → OfWritten target left made made'
   of_taken left left' made made' taken consumed whole none making image before told lies is =
       let same : image ≡ taken = subst (λ (o : Option (List ℕ)). IfSome o (λ (x : List ℕ). x ≡ taken)) told (Consumes-whole left left' taken (λ (x : List ℕ). x ≡ taken) consumed whole.ended refl) in
       let now : made' ≡ Some (with_folder_of folder (disk_files target image) before) =
