@@ -1,0 +1,4 @@
+pub mod Lying
+pub mod SumSteps
+pub mod DiskNumbers
+pub mod NotedFiles

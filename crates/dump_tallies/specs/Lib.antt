@@ -1,0 +1,5 @@
+pub mod Files
+pub mod Tallies
+pub mod Numbers
+pub mod inside
+pub mod lemmas
