@@ -1,4 +1,4 @@
-//! Streams that are read and blocks that are written, byte by byte: tests alone, of the public calls of `kryo_stream`.
+//! Streams that are read, blocks that are written, tracks of SCP files, byte by byte: tests alone, of public calls.
 //! They stand apart from `kryo_stream`, whose proof a check of tests in it would make once more.
 #![tactic(auto)]
 

@@ -1,6 +1,7 @@
 //! Streams from memory, and blocks into memory.
 mod padding;
 mod reading;
+mod scp;
 mod writing;
 
 use flux_base::MemorySource;

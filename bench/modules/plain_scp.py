@@ -1,0 +1,111 @@
+"""SCP files (SuperCard Pro image file format), off the definitions: the tracks of a file, and the stream that each stands for.
+
+All is read of the file's bytes at once. `Refused` is a fault of a file or of a track.
+"""
+import struct
+
+import plain_streams
+from plain_streams import LIMIT
+
+MOST_ENTRIES = 4194304
+TABLE = 168
+
+
+class Refused(Exception):
+    """Why a file has no tracks, or why a track is not read."""
+
+    def text(self):
+        return " ".join(map(str, ("scp", *self.args)))
+
+
+def rounded(units, resolution):
+    """Units in ticks of 2628/4375 for 25 ns, to the nearest whole one."""
+    whole, part = divmod(units * (resolution + 1) * 2628, 4375)
+    return whole + (2 * part >= 4375)
+
+
+class File:
+    def __init__(self, data):
+        if len(data) < 16:
+            raise Refused("ShortHeader", len(data))
+        if not data.startswith(b"SCP"):
+            raise Refused("BadSignature")
+        if data[8] & 0x40:
+            raise Refused("NotFloppy")
+        if data[9] not in (0, 16):
+            raise Refused("BadWidth", data[9])
+        self.data, self.turns, self.resolution = data, data[5], data[11]
+        self.offsets = dict(self.table())
+
+    def table(self):
+        """The numbers and places of tracks, up to the first place that the table itself would reach."""
+        end = len(self.data)
+        for number in range(TABLE):
+            at = 16 + 4 * number
+            if at + 4 > end:
+                return
+            (offset,) = struct.unpack_from("<I", self.data, at)
+            if offset:
+                end = min(end, offset)
+                yield number, offset
+
+    def sums(self):
+        """The sum of the bytes behind the header and the one that is wanted, where they differ."""
+        (wanted,) = struct.unpack_from("<I", self.data, 12)
+        found = sum(self.data[16:]) & 0xFFFFFFFF
+        return None if self.data[8] & 0x10 or wanted in (0, found) else (found, wanted)
+
+    def track(self, number):
+        """A track that has a place."""
+        return Track(self.data[self.offsets[number] :], number, self.turns, self.resolution)
+
+
+class Track:
+    """The times and index times of a track, and the first revolution that the file has not whole, if one was read before it."""
+
+    def __init__(self, data, number, turns, resolution):
+        if len(data) < 4 + 12 * turns:
+            raise Refused("ShortTrack")
+        if data[:3] != b"TRK":
+            raise Refused("BadSignature")
+        if data[3] != number:
+            raise Refused("BadNumber", data[3])
+        self.times, self.indexes, self.short = [], [0], None
+        read = past = duration = 0
+        for turn, (length, count, offset) in enumerate(struct.iter_unpack("<III", data[4 : 4 + 12 * turns])):
+            if count == 0:
+                break
+            read += count
+            if read > MOST_ENTRIES:
+                raise Refused("TooLong")
+            if len(data) < offset + 2 * count:
+                if turn == 0:
+                    raise Refused("ShortData", turn)
+                self.short = turn
+                break
+            for (value,) in struct.iter_unpack(">H", data[offset : offset + 2 * count]):
+                past += value or 65536
+                if value:
+                    self.times.append(rounded(past, resolution))
+            duration += length
+            self.indexes.append(rounded(duration, resolution))
+        last = self.times[-1] if self.times else 0
+        if max(last, self.indexes[-1]) >= 1 << 32:
+            raise Refused("TooLong")
+        self.bytes = self.stream()
+        if len(self.bytes) > LIMIT:
+            raise Refused("TooLong")
+
+    def stream(self):
+        """The stream that the track stands for."""
+        out, position, before, left = bytearray(), 0, 0, list(self.indexes)
+        for time in self.times:
+            while left and left[0] < time:
+                overflows, sample = divmod(left[0] - before, 65536)
+                out += struct.pack("<BBHIII", 13, 2, 12, position + overflows, sample, left.pop(0) // 8)
+            blocks = plain_streams.spelled(time - before)
+            out += blocks
+            position, before = position + len(blocks), time
+        for moment in left:
+            out += struct.pack("<BBHIII", 13, 2, 12, position, moment - before, moment // 8)
+        return bytes(out + struct.pack("<BBHII", 13, 3, 8, position, 0) + b"\r" * 4)
