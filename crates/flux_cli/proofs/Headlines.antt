@@ -19,6 +19,7 @@ use Rattle.law_captured_plans.specs.Said.{AreRightLines, GoodLinesAreRight, Inpu
 use Rattle.law_written_dumps.specs.Headline.{WrittenDumpsAreReadWell, WrittenFilesCapture}
 use Rattle.sector_images.specs.declared.format.Format.{Format}
 use Rattle.sector_report.specs.declared.totals.Totals.{Totals}
+use Rattle.stream_files.specs.Joined.{FilesAreJoined}
 use Rattle.turn_merge.specs.declared.verdict.Verdict.TheVariants.{Good}
 use Rattle.flux_words.specs.CommandWords.{AskOnce}
 use Rattle.flux_words.specs.G64Disks.{format_of}
@@ -49,6 +50,7 @@ pub record Laws : Type 0 where
   pub trials : WholeTrialsHaveOneLine
   pub written : WrittenFilesCapture
   pub written_read : WrittenDumpsAreReadWell
+  pub joined : FilesAreJoined
 
 -- what a disk's status is that was not refused
 read_by : (b : Bool) → WasRead (if b then AllGood else NotAllGood)

@@ -26,3 +26,4 @@ pub mod AskedWords
 pub mod FilesTold
 pub mod Making
 pub mod FilesHeadline
+pub mod SplitHeadline

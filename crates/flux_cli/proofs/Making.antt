@@ -1,5 +1,5 @@
 -- What a command that makes files answers: whom it blames, and how often each object of the run failed.
-use Rattle.std.proofs.Common.{ℕ, true, false, List, Ok, Err, is_err, sym, subst}
+use Rattle.std.proofs.Common.{ℕ, true, false, List, [], Ok, Err, is_err, refl, sym, subst}
 use Rattle.disk_files.specs.Answers.{Answer, WritesFiles}
 use Rattle.disk_files.specs.Blamed.{files_blame}
 use Rattle.disk_files.specs.Files.{DiskFolder}
@@ -16,6 +16,12 @@ use Rattle.flux_cli.proofs.EndingLaws.{ends-with}
 use Rattle.flux_cli.specs.Blamed.{CountsOfRun, all_counts}
 use Rattle.flux_cli.specs.Endings.{EndsBy, refuses}
 use Rattle.flux_cli.specs.FilesWork.{IsOfTracks, files_ending}
+use Rattle.stream_files.specs.Answers.{Answer as SplitAnswer, SplitsStreams}
+use Rattle.stream_files.specs.Blamed.{split_blame}
+use Rattle.stream_files.specs.Streams.{SplitFolder}
+use Rattle.stream_files.specs.declared.fault.SplitFault.TheVariants.{NoName, Exists as SplitExists, FileFault as SplitFileFault, FolderFault as SplitFolderFault, ReadFault as SplitUnread, Refused as SplitRefused}
+use Rattle.stream_files.specs.declared.heads.Heads.{Heads}
+use Rattle.flux_cli.specs.SplitWork.{IsOfNames, split_ending}
 use Rattle.flux_cli.specs.MakingWork.{EndsMaking, MakingEnding, all_made, refused, unmade, unread}
 use Rattle.std.specs.Prelude.{Option}
 
@@ -43,6 +49,25 @@ of-tracks disk (Err (WrongSize read wanted)) wrote = tt
 of-tracks disk (Err (Exists number)) wrote = wrote.says.1
 of-tracks disk (Err FolderFault) wrote = tt
 of-tracks disk (Err (FileFault number)) wrote = wrote.says.2
+
+pub split-blame : {before after : OutsideCounts} (heads : Heads) (answer : SplitAnswer) → CountsBy (split_blame answer) before after → CountsBy (making_blame (split_ending heads answer)) before after
+split-blame heads (Ok count) counts = counts
+split-blame heads (Err SplitUnread) counts = counts
+split-blame heads (Err (SplitRefused stream block fault)) counts = counts
+split-blame heads (Err (NoName stream)) counts = counts
+split-blame heads (Err (SplitExists stream)) counts = counts
+split-blame heads (Err SplitFolderFault) counts = counts
+split-blame heads (Err (SplitFileFault stream)) counts = counts
+
+-- the streams that it names have names
+pub of-names : {left left' : Option (List ℕ)} {made made' : Option Made} (split : SplitFolder) (answer : SplitAnswer) → SplitsStreams split left left' made made' answer → IsOfNames split.heads answer
+of-names split (Ok count) did = tt
+of-names split (Err SplitUnread) did = tt
+of-names split (Err (SplitRefused stream block fault)) did = tt
+of-names split (Err (NoName stream)) did = (did.says [] (λ of. refl)).1
+of-names split (Err (SplitExists stream)) did = (did.says [] (λ of. refl)).0
+of-names split (Err SplitFolderFault) did = tt
+of-names split (Err (SplitFileFault stream)) did = (did.says [] (λ of. refl)).0
 
 -- the counts of all by how the command ended
 module _ {N : Type 0} (source source' shelf image notes maker maker' : FaultCounts) where

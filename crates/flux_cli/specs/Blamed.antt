@@ -10,8 +10,9 @@ use Rattle.flux_base.specs.declared.status.Status.TheVariants.{ShelfFault}
 use Rattle.flux_help.specs.Verbs.{verb_of}
 use Rattle.flux_help.specs.declared.verb.Verb.{Verb}
 use Rattle.flux_help.specs.declared.verb.Verb.TheVariants.{Identify, Info, Read, Show, Write}
+use Rattle.flux_help.specs.declared.verb.Verb.TheVariants.{Split}
 use Rattle.flux_words.specs.Asked.{Asked, some_dumps, a_sector, an_identity, told_files}
-use Rattle.flux_words.specs.Asked.{written_files}
+use Rattle.flux_words.specs.Asked.{written_files, split_streams}
 use Rattle.flux_cli.specs.World.{World}
 
 abbrev pub source_blame : Status → Blame
@@ -50,10 +51,12 @@ reads_dumps (first ∷ others) = verb_over_dumps (verb_of first)
 -- `write` a format's stands alone where none are
 abbrev pub asks_files : Asked → Bool
 asks_files (written_files format folder) = true
+asks_files (split_streams folder heads) = true
 asks_files _ = false
 
 abbrev pub verb_asks_files : Option Verb → (others : List (List ℕ)) → Bool
 verb_asks_files (Some Write) (option ∷ folder ∷ others) = true
+verb_asks_files (Some Split) others = true
 verb_asks_files _ _ = false
 
 abbrev pub makes_files : (words : List (List ℕ)) → Bool

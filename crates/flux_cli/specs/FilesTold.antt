@@ -11,6 +11,10 @@ file_text front number between track =
 abbrev pub exists_text : (number : ℕ) → TrackId → List ℕ
 exists_text number track = file_text (codes "refused track ") number (codes " exists ") track
 
+-- it is the last of those that have names, and the number that of the stream behind it
+abbrev pub beyond_text : (number : ℕ) → TrackId → List ℕ
+beyond_text number track = file_text (codes "refused track ") number (codes " beyond ") track
+
 -- it was not made, or not all of it
 abbrev pub failed_text : (number : ℕ) → TrackId → List ℕ
 failed_text number track = file_text (codes "failed track ") number (codes " ") track

@@ -24,6 +24,8 @@ pub mod MakingWork
 pub mod FilesTold
 pub mod FilesWork
 pub mod FilesHeadline
+pub mod SplitWork
+pub mod SplitHeadline
 pub mod ShelfRuns
 pub mod OutputTold
 pub mod ReadHeadline

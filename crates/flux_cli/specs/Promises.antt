@@ -8,7 +8,7 @@ use Rattle.kryo_stream.specs.Reads.{SourceMoment}
 use Rattle.sector_images.specs.declared.format.Format.{Format}
 use Rattle.track_shelf.specs.Files.{File, first_missing, joined}
 use Rattle.flux_words.specs.Asked.{Asked, some_streams, a_folder, some_dumps, a_trial}
-use Rattle.flux_words.specs.Asked.{an_image_of_g64, written_files}
+use Rattle.flux_words.specs.Asked.{an_image_of_g64, written_files, split_streams}
 use Rattle.flux_words.specs.CommandWords.{AreWordsOf}
 use Rattle.flux_words.specs.G64Disks.{format_of}
 use Rattle.flux_cli.specs.AskedDisks.{asked_disk}
@@ -21,6 +21,8 @@ use Rattle.flux_cli.specs.PlanWork.{planned_work}
 use Rattle.flux_cli.specs.ReadHeadline.{OfRead}
 use Rattle.flux_cli.specs.Runs.{Does}
 use Rattle.flux_cli.specs.ShelfWork.{ends_over_shelf}
+use Rattle.flux_cli.specs.SplitHeadline.{OfSplit}
+use Rattle.flux_cli.specs.SplitWork.{split_of}
 use Rattle.flux_cli.specs.TrialWork.{trial_work}
 use Rattle.flux_cli.specs.Work.{Outcome, Work}
 use Rattle.flux_cli.specs.Works.{plan_of}
@@ -96,6 +98,10 @@ Expected (a_trial format seed) status before after =
 -- each sector is good, with its own bytes, whatever else lies there.
 Expected (written_files format folder) status before after =
     status ≡ AllGood → OfWritten (files_of format folder) before.source.seen.left before.maker.made
+    after.maker.made
+-- Where `split` made all files they are the input, one after another, but for padding.
+Expected (split_streams folder heads) status before after =
+    status ≡ AllGood → OfSplit (split_of folder heads) before.source.seen.left before.maker.made
     after.maker.made
 -- Of all others their rows say all.
 Expected _ status before after = Unit {0}

@@ -10,7 +10,7 @@ use Rattle.sector_images.specs.declared.format.Format.{Format}
 use Rattle.flux_words.specs.Asked.{Asked, the_turns, some_streams, a_folder, some_dumps, a_sector}
 use Rattle.flux_words.specs.Asked.{an_identity, told_files, written_streams, a_trial, a_g64_file}
 use Rattle.flux_words.specs.Asked.{an_image_of_g64, a_page}
-use Rattle.flux_words.specs.Asked.{written_files}
+use Rattle.flux_words.specs.Asked.{written_files, split_streams}
 use Rattle.flux_words.specs.CommandWords.{AskFor}
 use Rattle.flux_words.specs.declared.commands.Way.{Way}
 use Rattle.flux_words.specs.declared.commands.Way.TheVariants.{Once, Often, ByBothClocks}
@@ -27,6 +27,7 @@ use Rattle.flux_cli.specs.ImagesWork.{write_work}
 use Rattle.flux_cli.specs.MakingWork.{MakingWork}
 use Rattle.flux_cli.specs.PlanWork.{planned_work}
 use Rattle.flux_cli.specs.PagesWork.{page_work}
+use Rattle.flux_cli.specs.SplitWork.{split_work}
 use Rattle.flux_cli.specs.TrialWork.{trial_work}
 use Rattle.flux_cli.specs.TurnsWork.{turns_work}
 use Rattle.flux_cli.specs.Work.{Outcome, Growth, GotNothing, GotPart, Work}
@@ -81,6 +82,7 @@ row_of (an_identity dump) = with_files (identity_work dump)
 row_of (told_files dump) = with_files (info_work dump)
 row_of (written_streams format) = with_bytes (write_work format)
 row_of (written_files format folder) = with_maker (files_work format folder)
+row_of (split_streams folder heads) = with_maker (split_work folder heads)
 row_of (a_trial format seed) = with_bytes (trial_work format seed)
 row_of (a_g64_file disk) = with_bytes (to_g64_work (format_of disk))
 row_of (an_image_of_g64 disk) = with_bytes (from_g64_work (format_of disk))

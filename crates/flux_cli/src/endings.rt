@@ -11,10 +11,13 @@ ghost use Rattle.flux_cli.specs.MakingWork.{EndsMaking, TellsUnmade};
 ghost use Rattle.flux_cli.specs.PlanWork.{status_of as totals_status};
 ghost use Rattle.flux_cli.specs.ReadRuns.{read_status};
 ghost use Rattle.flux_cli.specs.SectorRuns.{sector_status};
+ghost use Rattle.flux_cli.specs.SplitWork.{IsOfNames, split_ending};
 ghost use Rattle.flux_base.specs.World.{sink_at};
 
 use crate::empty::write_empty;
-use crate::files_told::{exists_line, failed_line, folder_line, named_track};
+use crate::files_told::{
+    beyond_line, exists_line, failed_line, folder_line, named_stream, named_track,
+};
 use crate::identity::status_of as status_of_identity;
 use crate::planned::stop_line;
 use crate::read::status_of as status_of_dumps;
@@ -27,7 +30,8 @@ use flux_engine::{RefusedCapture, Stopped, WriteFault};
 use g64_image::{G64Fault, g64_line};
 use sector_copies::SectorTotals;
 use sector_images::Format;
-use sector_report::{Line, Naming, Totals, image_line, write_line};
+use sector_report::{Line, Naming, Totals, image_line, refused_line, write_line};
+use stream_files::{Heads, SplitFault};
 use track_shelf::Shelf;
 
 /// Writes the line that says why an input is refused.
@@ -106,6 +110,38 @@ pub(crate) fn end_of_files<N: Sink>(
         Err(FilesFault::FolderFault) => tell_unmade(&folder_line(), notes),
         Err(FilesFault::FileFault { track }) => {
             tell_unmade(&failed_line(track, named_track(format, track)), notes)
+        }
+    }
+}
+
+/// Ends joined streams that were made files.
+pub(crate) fn end_of_split<N: Sink>(
+    heads: Heads,
+    answer: Result<u32, SplitFault>,
+    notes: &mut N,
+) -> Status
+    requires { IsOfNames heads answer }
+    ensures { EndsMaking (split_ending heads answer) result (sink_at N.Sink notes.old) (sink_at N.Sink notes.new) }
+{
+    match answer {
+        Ok(_) => Status::AllGood,
+        Err(SplitFault::ReadFault) => Status::ReadFault,
+        Err(
+            SplitFault::Refused {
+                stream,
+                block,
+                fault,
+            },
+        ) => refuse(&refused_line(stream, block, &fault), notes),
+        Err(SplitFault::NoName { stream }) => {
+            refuse(&beyond_line(stream, named_stream(heads, stream - 1)), notes)
+        }
+        Err(SplitFault::Exists { stream }) => {
+            refuse(&exists_line(stream, named_stream(heads, stream)), notes)
+        }
+        Err(SplitFault::FolderFault) => tell_unmade(&folder_line(), notes),
+        Err(SplitFault::FileFault { stream }) => {
+            tell_unmade(&failed_line(stream, named_stream(heads, stream)), notes)
         }
     }
 }

@@ -1,14 +1,16 @@
 //! What is told of files that are not made.
 
 ghost use Rattle.std.specs.Prelude.{◌≡◌, ◌<◌, ◌≤◌, ◌++◌, codes, decimal, length};
-ghost use Rattle.flux_cli.specs.FilesTold.{exists_text, failed_text, file_text};
+ghost use Rattle.flux_cli.specs.FilesTold.{beyond_text, exists_text, failed_text, file_text};
 ghost use Rattle.flux_engine.specs.Recordings.{track_at};
 ghost use Rattle.sector_images.specs.Places.{tracks};
+ghost use Rattle.stream_files.specs.Streams.{most_streams, stream_track};
 ghost use Rattle.track_shelf.specs.Names.{IsNamed};
 
 use flux_base::TrackId;
 use sector_images::{Format, track_id, tracks_keep_bounds};
 use sector_report::{Line, put, put_u32};
+use stream_files::Heads;
 use track_shelf::file_name;
 
 /// The track of this number of a format, by which its file is named.
@@ -21,12 +23,29 @@ pub(crate) fn named_track(format: Format, number: u32) -> TrackId
     track_id(format, number)
 }
 
+/// The track by which the file of the stream of this number is named.
+pub(crate) fn named_stream(heads: Heads, number: u32) -> TrackId
+    requires { number < most_streams heads }
+    ensures is { result ≡ stream_track heads number }
+    ensures named { IsNamed result }
+{
+    heads.track(number)
+}
+
 /// The line on the file of a track that is there already.
 pub(crate) fn exists_line(number: u32, track: TrackId) -> Line
     requires { IsNamed track }
     ensures { result.bytes ≡ exists_text number track }
 {
     file_line("refused track ", number, " exists ", track)
+}
+
+/// The line on a stream behind that of the last file that has a name.
+pub(crate) fn beyond_line(number: u32, last: TrackId) -> Line
+    requires { IsNamed last }
+    ensures { result.bytes ≡ beyond_text number last }
+{
+    file_line("refused track ", number, " beyond ", last)
 }
 
 /// The line on one that was not made, or not all of it.

@@ -5,7 +5,7 @@ ghost use Rattle.flux_cli.specs.OutputTold.{RanAndTold, is_told};
 ghost use Rattle.flux_cli.specs.ShelfRuns.{Ran};
 ghost use Rattle.flux_cli.specs.World.{world_at};
 
-use crate::files::WriteFiles;
+use crate::files::{Split, WriteFiles};
 use crate::output_told::tell_output;
 use crate::shelf_task::{DecodeFolder, Identify, Info};
 use crate::task::{FromG64, Task, Tell, ToG64, Trial, Turns, Write};
@@ -22,6 +22,7 @@ use law_read_dumps::{complete_dumps_are_all_read, dump_reports_have_lines, dumps
 use law_reported_dumps::dump_lines_tell;
 use law_written_dumps::written_dumps_are_read;
 use std::alloc::Global;
+use stream_files::files_are_joined;
 use track_shelf::Shelf;
 
 /// Runs the program over its words, without the program's name. Bytes of images go to `image`, and lines
@@ -80,6 +81,7 @@ pub fn run<S: Source, W: Sink, N: Sink, H: Shelf, M: FileMaker>(
     captured_dumps_are_read();
     dumps_are_drawn_as_reported();
     written_dumps_are_read();
+    files_are_joined();
     let status = run_words(alloc, words, source, image, notes, shelf, maker);
     tell_output(words, status, notes);
     status
@@ -124,6 +126,9 @@ fn run_words<S: Source, W: Sink, N: Sink, H: Shelf, M: FileMaker>(
         Some(Command::Info(dump)) => Info { dump }.run(alloc, source, image, notes, shelf, maker),
         Some(Command::WriteFiles(format, folder)) => {
             WriteFiles { format, folder }.run(alloc, source, image, notes, shelf, maker)
+        }
+        Some(Command::Split(folder, heads)) => {
+            Split { folder, heads }.run(alloc, source, image, notes, shelf, maker)
         }
         Some(Command::Write(format)) => Write { format }.run(
             alloc, source, image, notes, shelf, maker,

@@ -6,18 +6,18 @@ use Rattle.std.specs.Option.{option_and_then}
 use Rattle.std.specs.Str.{bytes_eq}
 use Rattle.flux_help.specs.declared.verb.TheConstants.{IDENTIFY, INFO, READ, SHOW, DECODE_FOLDER}
 use Rattle.flux_help.specs.declared.verb.TheConstants.{DECODE_SET, RESCUE, DECODE, REPORT, MAP}
-use Rattle.flux_help.specs.declared.verb.TheConstants.{WRITE, TURNS, TO_G64, FROM_G64, TRIAL, HELP}
+use Rattle.flux_help.specs.declared.verb.TheConstants.{WRITE, SPLIT, TURNS, TO_G64, FROM_G64, TRIAL, HELP}
 use Rattle.flux_help.specs.declared.verb.Texts.{Texts}
 use Rattle.flux_help.specs.declared.verb.Verb.{Verb}
 use Rattle.flux_help.specs.declared.verb.Verb.TheVariants.{Identify, Info, Read, Show, DecodeFolder}
 use Rattle.flux_help.specs.declared.verb.Verb.TheVariants.{DecodeSet, Rescue, Decode, Report, Map}
-use Rattle.flux_help.specs.declared.verb.Verb.TheVariants.{Write, Turns, ToG64, FromG64, Trial}
+use Rattle.flux_help.specs.declared.verb.Verb.TheVariants.{Write, Split, Turns, ToG64, FromG64, Trial}
 use Rattle.flux_help.specs.declared.verb.Verb.TheVariants.{Help}
 
 -- all commands, in the order in which the help lists them
 abbrev pub verbs : List Verb
 verbs = Identify ∷ Info ∷ Read ∷ Show ∷ DecodeFolder ∷ DecodeSet ∷ Rescue ∷ Decode ∷ Report ∷ Map
-    ∷ Write ∷ Turns ∷ ToG64 ∷ FromG64 ∷ Trial ∷ Help ∷ []
+    ∷ Write ∷ Split ∷ Turns ∷ ToG64 ∷ FromG64 ∷ Trial ∷ Help ∷ []
 
 -- its first word
 unfoldable pub verb_word : Verb → List ℕ
@@ -32,6 +32,7 @@ verb_word Decode = codes "decode"
 verb_word Report = codes "report"
 verb_word Map = codes "map"
 verb_word Write = codes "write"
+verb_word Split = codes "split"
 verb_word Turns = codes "turns"
 verb_word ToG64 = codes "to-g64"
 verb_word FromG64 = codes "from-g64"
@@ -51,6 +52,7 @@ verb_texts Decode = DECODE
 verb_texts Report = REPORT
 verb_texts Map = MAP
 verb_texts Write = WRITE
+verb_texts Split = SPLIT
 verb_texts Turns = TURNS
 verb_texts ToG64 = TO_G64
 verb_texts FromG64 = FROM_G64
@@ -72,6 +74,7 @@ is_own Read = true
 is_own Show = true
 is_own Rescue = true
 is_own Map = true
+is_own Split = true
 is_own Help = true
 is_own _ = false
 
@@ -81,6 +84,7 @@ abbrev pub asks_format : Verb → Bool
 asks_format Identify = false
 asks_format Info = false
 asks_format Show = false
+asks_format Split = false
 asks_format Turns = false
 asks_format Help = false
 asks_format _ = true

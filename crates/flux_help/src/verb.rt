@@ -28,6 +28,8 @@ pub enum Verb {
     Map,
     /// An image to streams.
     Write,
+    /// Joined streams to files.
+    Split,
     /// One stream to its transitions and revolutions.
     Turns,
     /// An image to a G64 file.
@@ -41,7 +43,7 @@ pub enum Verb {
 }
 
 /// All commands, in the order in which the help lists them.
-const VERBS: [Verb; 16] = [
+const VERBS: [Verb; 17] = [
     Verb::Identify,
     Verb::Info,
     Verb::Read,
@@ -53,6 +55,7 @@ const VERBS: [Verb; 16] = [
     Verb::Report,
     Verb::Map,
     Verb::Write,
+    Verb::Split,
     Verb::Turns,
     Verb::ToG64,
     Verb::FromG64,
@@ -233,6 +236,20 @@ Example:
 ",
 };
 
+const SPLIT: Texts<&str> = Texts {
+    word: "split",
+    line: "   split FOLDER HEADS           joined streams, of whatever disk, to files\n",
+    usage: "usage: flux split FOLDER HEADS\n",
+    about: "
+Cuts joined streams apart, without what stands between them, to files trackCC.H.raw of the folder, which is made: the first is
+that of track 00.0, and each cylinder has 1 or 2 HEADS. Where such a file is there already, none is written. A stream that is
+refused ends it; the files before it are whole.
+
+Example:
+   flux split dump 2 < disk.raw
+",
+};
+
 const TURNS: Texts<&str> = Texts {
     word: "turns",
     line: "   turns                        one stream to its transitions and the length of each revolution\n",
@@ -323,6 +340,7 @@ impl Verb {
                 | Verb::Show
                 | Verb::Rescue
                 | Verb::Map
+                | Verb::Split
                 | Verb::Help
         )
     }
@@ -334,7 +352,7 @@ impl Verb {
     {
         !matches!(
             self,
-            Verb::Identify | Verb::Info | Verb::Show | Verb::Turns | Verb::Help
+            Verb::Identify | Verb::Info | Verb::Show | Verb::Split | Verb::Turns | Verb::Help
         )
     }
 
@@ -358,6 +376,7 @@ impl Verb {
             Verb::Report => REPORT,
             Verb::Map => MAP,
             Verb::Write => WRITE,
+            Verb::Split => SPLIT,
             Verb::Turns => TURNS,
             Verb::ToG64 => TO_G64,
             Verb::FromG64 => FROM_G64,

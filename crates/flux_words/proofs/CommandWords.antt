@@ -1,15 +1,17 @@
 -- What words ask for, by the one that stands first.
-use Rattle.std.proofs.Common.{◌≡◌, ℕ, List, [], ◌∷◌, length, Option, Some, None, inl, inr, refl, sym, ap, ◌∙◌, subst, arith}
+use Rattle.std.proofs.Common.{◌≡◌, ℕ, List, [], ◌∷◌, get_or, length, Option, Some, None, inl, inr, refl, sym, ap, ◌∙◌, subst, arith}
 use Rattle.std.specs.Str.Parse.{digits_value}
 use Rattle.flux_help.specs.Verbs.{verb_of}
 use Rattle.flux_help.specs.declared.page.Page.{Page}
 use Rattle.flux_help.specs.declared.page.Page.TheVariants.{Help as AllPages, Version, About}
 use Rattle.flux_help.specs.declared.verb.Verb.{Verb}
-use Rattle.flux_help.specs.declared.verb.Verb.TheVariants.{Identify, Info, Read, Show, DecodeFolder, DecodeSet, Rescue, Decode, Report, Map, Write, Turns, ToG64, FromG64, Trial, Help}
+use Rattle.flux_help.specs.declared.verb.Verb.TheVariants.{Identify, Info, Read, Show, DecodeFolder, DecodeSet, Rescue, Decode, Report, Map, Write, Split, Turns, ToG64, FromG64, Trial, Help}
 use Rattle.sector_images.specs.Formats.{WordsBeginWithLetters, WordsNameFormats}
 use Rattle.sector_images.specs.declared.format.Format.{Format}
-use Rattle.flux_words.specs.Asked.{Asked, a_folder, some_dumps, a_sector, an_identity, told_files, written_streams, written_files, a_trial, a_g64_file, an_image_of_g64, a_page}
-use Rattle.flux_words.specs.CommandWords.{AreBehind, AreByVerb, AreFilesWords, AreStreams, AskFor, AskOnce, IsDashed, IsFormat, IsFormatWith, IsPageWord, streams_of}
+use Rattle.flux_words.specs.Asked.{Asked, a_folder, some_dumps, a_sector, an_identity, told_files, written_streams, written_files, split_streams, a_trial, a_g64_file, an_image_of_g64, a_page}
+use Rattle.flux_words.specs.CommandWords.{AreBehind, AreByVerb, AreFilesWords, AreStreams, AskFor, AskOnce, IsDashed, IsFormat, IsFormatWith, IsOfHeads, IsPageWord, streams_of}
+use Rattle.stream_files.specs.declared.heads.Heads.{Heads}
+use Rattle.stream_files.specs.declared.heads.Heads.TheVariants.{One, Two}
 use Rattle.flux_words.specs.DumpWords.{AreDiskWords, dump_options}
 use Rattle.flux_words.specs.G64Disks.{format_of}
 use Rattle.flux_words.specs.Names.{Names}
@@ -63,6 +65,13 @@ one_page first (About verb) other is is_other = absurd is
 one_page first AllPages (About verb) is is_other = absurd is_other
 one_page first Version (About verb) is is_other = absurd is_other
 
+-- a word says one number of heads
+pub one_heads : (heads other : Heads) (word : List ℕ) → IsOfHeads heads word → IsOfHeads other word → heads ≡ other
+one_heads One One word is is_other = refl
+one_heads One Two word is is_other = (let wrong : 49 ≡ 50 = ap (λ (w : List ℕ). get_or w 0 0) (sym is ∙ is_other) in absurd (omega (arith, wrong)))
+one_heads Two One word is is_other = (let wrong : 50 ≡ 49 = ap (λ (w : List ℕ). get_or w 0 0) (sym is ∙ is_other) in absurd (omega (arith, wrong)))
+one_heads Two Two word is is_other = refl
+
 module _ (names : WordsNameFormats) (letters : WordsBeginWithLetters) where
   module _ (others : List (List ℕ)) where
     same_format : (f g : Format) → IsFormat f others → IsFormat g others → f ≡ g
@@ -99,7 +108,11 @@ module _ (names : WordsNameFormats) (letters : WordsBeginWithLetters) where
     one_behind Write a b (inr p) (inr q) =
         let behind = tail-same _ _ _ _ (sym p.2.1 ∙ q.2.1) in
         let format : p.0 ≡ q.0 = one-format names p.2.0 q.2.0 p.0 q.0 (head-same _ _ _ _ (tail-same _ _ _ _ behind)) p.2.2 q.2.2 in
-        p.5 ∙ ap (λ (f : Format). written_files f p.1) format ∙ ap (written_files q.0) (head-same _ _ _ _ behind) ∙ sym q.5
+        p.4 ∙ ap (λ (f : Format). written_files f p.1) format ∙ ap (written_files q.0) (head-same _ _ _ _ behind) ∙ sym q.4
+    one_behind Split a b p q =
+        let word = head-same _ _ _ _ (tail-same _ _ _ _ (sym p.3 ∙ q.3)) in
+        p.6 ∙ ap (split_streams p.0) (one_heads p.2 q.2 p.1 p.4 (subst (IsOfHeads q.2) (sym word) q.4))
+        ∙ ap (λ (folder : List ℕ). split_streams folder q.2) (head-same _ _ _ _ (sym p.3 ∙ q.3)) ∙ sym q.6
     one_behind Trial a b p q =
         let seed : p.2 ≡ q.2 = sym p.4.value ∙ ap (digits_value 10) (same_last p.0 q.0 p.1 q.1 p.3 q.3) ∙ q.4.value in
         p.5 ∙ ap (a_trial p.0) seed ∙ ap (λ (f : Format). a_trial f q.2) (same_format_with p.0 q.0 p.1 q.1 p.3 q.3) ∙ sym q.5

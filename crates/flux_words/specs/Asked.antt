@@ -2,12 +2,13 @@
 use Rattle.std.specs.Prelude.{ℕ, List}
 use Rattle.flux_help.specs.declared.page.Page.{Page}
 use Rattle.sector_images.specs.declared.format.Format.{Format}
+use Rattle.stream_files.specs.declared.heads.Heads.{Heads}
 use Rattle.flux_words.specs.DumpWords.{AskedDumps, asked_dumps}
 use Rattle.flux_words.specs.SectorWords.{AskedSector, asked_sector}
 use Rattle.flux_words.specs.declared.commands.Command.{Command}
 use Rattle.flux_words.specs.declared.commands.Command.TheVariants.{Turns, Streams, Folder, Dumps}
 use Rattle.flux_words.specs.declared.commands.Command.TheVariants.{Sector, Identify, Info, Write}
-use Rattle.flux_words.specs.declared.commands.Command.TheVariants.{WriteFiles}
+use Rattle.flux_words.specs.declared.commands.Command.TheVariants.{WriteFiles, Split}
 use Rattle.flux_words.specs.declared.commands.Command.TheVariants.{Trial, ToG64, FromG64, Tell}
 use Rattle.flux_words.specs.declared.commands.StreamsAsked.{StreamsAsked}
 use Rattle.flux_words.specs.declared.g64_disk.G64Disk.{G64Disk}
@@ -31,6 +32,8 @@ pub data Asked : Type 0 where
   written_streams : Format → Asked
   -- the same as files of a folder
   written_files : Format → (folder : List ℕ) → Asked
+  -- joined streams, as files of a folder, of a disk of so many heads
+  split_streams : (folder : List ℕ) → Heads → Asked
   a_trial : Format → (seed : ℕ) → Asked
   -- the file that emulators keep of an image, and the image of such a file
   a_g64_file : G64Disk → Asked
@@ -48,6 +51,7 @@ asked_of (Identify dump) = an_identity dump.now
 asked_of (Info dump) = told_files dump.now
 asked_of (Write format) = written_streams format
 asked_of (WriteFiles format folder) = written_files format folder.now
+asked_of (Split folder heads) = split_streams folder.now heads
 asked_of (Trial format seed) = a_trial format seed
 asked_of (ToG64 disk) = a_g64_file disk
 asked_of (FromG64 disk) = an_image_of_g64 disk

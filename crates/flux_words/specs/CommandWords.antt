@@ -7,15 +7,17 @@ use Rattle.flux_help.specs.declared.page.Page.TheVariants.{Help as AllPages, Ver
 use Rattle.flux_help.specs.declared.verb.Verb.{Verb}
 use Rattle.flux_help.specs.declared.verb.Verb.TheVariants.{Identify, Info, Read, Show, DecodeFolder}
 use Rattle.flux_help.specs.declared.verb.Verb.TheVariants.{DecodeSet, Rescue, Decode, Report, Map}
-use Rattle.flux_help.specs.declared.verb.Verb.TheVariants.{Write, Turns, ToG64, FromG64, Trial}
-use Rattle.flux_help.specs.declared.verb.Verb.TheVariants.{Help}
+use Rattle.flux_help.specs.declared.verb.Verb.TheVariants.{Write, Split, Turns, ToG64, FromG64}
+use Rattle.flux_help.specs.declared.verb.Verb.TheVariants.{Trial, Help}
 use Rattle.sector_images.specs.Formats.{IsWordOfFormat}
 use Rattle.sector_images.specs.declared.format.Format.{Format}
+use Rattle.stream_files.specs.declared.heads.Heads.{Heads}
+use Rattle.stream_files.specs.declared.heads.Heads.TheVariants.{One, Two}
 use Rattle.track_shelf.specs.Names.{names_file}
 use Rattle.flux_words.specs.Asked.{Asked, the_turns, some_streams, a_folder, some_dumps, a_sector}
 use Rattle.flux_words.specs.Asked.{an_identity, told_files, written_streams, a_trial, a_g64_file}
 use Rattle.flux_words.specs.Asked.{an_image_of_g64, a_page}
-use Rattle.flux_words.specs.Asked.{written_files}
+use Rattle.flux_words.specs.Asked.{written_files, split_streams}
 use Rattle.flux_words.specs.Counts.{IsCount}
 use Rattle.flux_words.specs.DumpWords.{AskedDumps, AreDumpWords}
 use Rattle.flux_words.specs.G64Disks.{format_of}
@@ -43,13 +45,23 @@ abbrev pub IsFormatInFolder : Format → (folder : List ℕ) → (others : List 
 IsFormatInFolder format folder others =
     (word : List ℕ) × (others ≡ codes "--folder" ∷ folder ∷ word ∷ []) × IsWordOfFormat word format
 
--- an image's streams as files of a folder, which has a name, and not that of a track's file, by
--- which a dump may be named
+-- Files can be made in a folder of this name: it has one, and not that of a track's file, by which
+-- a dump may be named.
+pub record CanBeMade (folder : List ℕ) : Type 0 where
+  pub named : folder ≢ []
+  pub is_folder : names_file folder ≡ false
+
+-- an image's streams as files of a folder
 abbrev pub AreFilesWords : (others : List (List ℕ)) → Asked → Type 0
 AreFilesWords others asked =
-    (format : Format) × (folder : List ℕ) × IsFormatInFolder format folder others × (folder ≢ [])
-    × (names_file folder ≡ false)
+    (format : Format) × (folder : List ℕ) × IsFormatInFolder format folder others
+    × CanBeMade folder
     × (asked ≡ written_files format folder)
+
+-- the word says how many heads there are
+abbrev pub IsOfHeads : Heads → (word : List ℕ) → Type 0
+IsOfHeads One word = word ≡ codes "1"
+IsOfHeads Two word = word ≡ codes "2"
 
 -- a disk's streams, read in this way, to this output
 abbrev pub streams_of : Way → Output → Format → Asked
@@ -87,6 +99,10 @@ AreBehind Info others asked = (dump : List ℕ) × IsDump others dump × (asked 
 AreBehind Write others asked =
     ((format : Format) × IsFormat format others × (asked ≡ written_streams format))
     ⊎ AreFilesWords others asked
+AreBehind Split others asked =
+    (folder : List ℕ) × (word : List ℕ) × (heads : Heads) × (others ≡ folder ∷ word ∷ [])
+    × IsOfHeads heads word × CanBeMade folder
+    × (asked ≡ split_streams folder heads)
 AreBehind Trial others asked =
     (format : Format) × (number : List ℕ) × (seed : ℕ) × IsFormatWith format number others
     × IsSeed seed number

@@ -1,11 +1,12 @@
 //! What the words behind each verb's ask for.
 
-ghost use Rattle.std.specs.Prelude.{◌≡◌, ◌⊎◌, ℕ, List, IfNone, IfSome};
+ghost use Rattle.std.specs.Prelude.{◌≡◌, ◌⊎◌, ◌↔◌, IsTrue, ℕ, List, IfNone, IfSome};
 ghost use Rattle.std.specs.Option.{option_map};
 ghost use Rattle.flux_help.specs.declared.verb.Verb.TheVariants.{DecodeFolder, DecodeSet, FromG64, Help, Identify};
-ghost use Rattle.flux_help.specs.declared.verb.Verb.TheVariants.{Info, Read, Show, ToG64, Trial, Turns, Write};
+ghost use Rattle.flux_help.specs.declared.verb.Verb.TheVariants.{Info, Read, Show, Split, ToG64, Trial, Turns, Write};
 ghost use Rattle.flux_words.specs.Asked.{asked_of};
-ghost use Rattle.flux_words.specs.CommandWords.{AreFilesWords, AreStreams, IsDump, IsFormat, IsFormatInFolder, IsFormatWith};
+ghost use Rattle.flux_words.specs.CommandWords.{AreFilesWords, AreStreams, CanBeMade, IsDump, IsFormat};
+ghost use Rattle.flux_words.specs.CommandWords.{IsFormatInFolder, IsFormatWith, IsOfHeads};
 ghost use Rattle.flux_words.specs.inside.CommandWords.{AskBehind};
 ghost use Rattle.flux_words.specs.G64Disks.{format_of};
 ghost use Rattle.flux_words.specs.Names.{Names};
@@ -20,6 +21,7 @@ use crate::{dump_words, sector_words};
 use flux_base::Word;
 use flux_help::{Page, Verb};
 use sector_images::{Format, words_name_formats};
+use stream_files::Heads;
 use track_shelf::names_file;
 
 /// A format alone.
@@ -203,13 +205,53 @@ fn files_behind(others: &[Word]) -> Option<Command<'_>>
     let Some((format, folder)) = format_in_folder(others) else {
         return None;
     };
+    if can_be_made(folder) {
+        Some(Command::WriteFiles(format, folder))
+    } else {
+        None
+    }
+}
+
+/// Whether files can be made in a folder of this name.
+fn can_be_made(folder: &Word) -> bool
+    ensures yes { IsTrue result → CanBeMade folder.now }
+    ensures no { CanBeMade folder.now → IsTrue result }
+{
     let name = folder.bytes();
     if name.is_empty() {
-        None
-    } else if names_file(name) {
-        None
+        false
     } else {
-        Some(Command::WriteFiles(format, folder))
+        !names_file(name)
+    }
+}
+
+/// Joined streams as files of a folder.
+pub(crate) fn split_behind(others: &[Word]) -> Option<Command<'_>>
+    ensures { AskBehind Split others.now (option_map asked_of result) }
+{
+    let [folder, number] = others else {
+        return None;
+    };
+    let Some(heads) = heads_of(number.bytes()) else {
+        return None;
+    };
+    if can_be_made(folder) {
+        Some(Command::Split(folder, heads))
+    } else {
+        None
+    }
+}
+
+/// So many heads, if the word says how many.
+fn heads_of(word: &[u8]) -> Option<Heads>
+    ensures { Names (λ heads. IsOfHeads heads word.now) result }
+{
+    if word == b"1".as_slice() {
+        Some(Heads::One)
+    } else if word == b"2".as_slice() {
+        Some(Heads::Two)
+    } else {
+        None
     }
 }
 

@@ -10,8 +10,8 @@ ghost use Rattle.flux_words.specs.Names.{Names};
 
 use crate::behind::{
     dump_behind, dumps_behind, folder_behind, from_g64_behind, info_behind, page_behind,
-    sector_behind, set_behind, streams_behind, to_g64_behind, trial_behind, turns_behind,
-    write_behind,
+    sector_behind, set_behind, split_behind, streams_behind, to_g64_behind, trial_behind,
+    turns_behind, write_behind,
 };
 use crate::dump_words::DumpsAsked;
 use crate::g64_disk::G64Disk;
@@ -19,6 +19,7 @@ use crate::sector_words::ShowAsked;
 use flux_base::Word;
 use flux_help::{Page, Verb};
 use sector_images::{Format, words_name_formats};
+use stream_files::Heads;
 
 /// What the words ask for.
 #[derive(Clone, Copy)]
@@ -41,6 +42,8 @@ pub enum Command<'a> {
     Write(Format),
     /// The same as files of a folder.
     WriteFiles(Format, &'a Word),
+    /// Joined streams as files of a folder, of a disk of so many heads.
+    Split(&'a Word, Heads),
     /// The trial that a number names.
     Trial(Format, u32),
     /// The file that emulators keep of a disk, from its image.
@@ -110,6 +113,7 @@ fn command_behind(verb: Verb, others: &[Word]) -> Option<Command<'_>>
         Verb::Report => streams_behind(Way::Once, Output::ReportAlone, others),
         Verb::Map => streams_behind(Way::Once, Output::Picture, others),
         Verb::Write => write_behind(others),
+        Verb::Split => split_behind(others),
         Verb::Turns => turns_behind(others),
         Verb::ToG64 => to_g64_behind(others),
         Verb::FromG64 => from_g64_behind(others),

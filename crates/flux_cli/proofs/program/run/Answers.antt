@@ -22,6 +22,7 @@ laws g c = record {
   trials = c.whole_trials_have_one_line.ensures;
   written = c.written_dumps_are_read.ensures.capture;
   written_read = c.written_dumps_are_read.ensures.well;
+  joined = c.files_are_joined.ensures;
 }
 
 -- the notes at the end
