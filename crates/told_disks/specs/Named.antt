@@ -1,5 +1,5 @@
 -- Which disks that have names have one of IBM's two recordings, and which numbers they cover.
-use Rattle.std.specs.Prelude.{◌&&◌, ℕ, Bool, false, nat_eq, nat_le, Option, Some, None}
+use Rattle.std.specs.Prelude.{◌&&◌, Bool, false, nat_eq, nat_le, Option, Some, None}
 use Rattle.std.specs.List.{list_any}
 use Rattle.ibm_disks.specs.Disks.{rate_of}
 use Rattle.ibm_disks.specs.GapPlans.{track_bytes}
@@ -9,8 +9,10 @@ use Rattle.ibm_disks.specs.declared.word.DiskNumbers.{DiskNumbers}
 use Rattle.sector_images.specs.Formats.{formats, row, zone}
 use Rattle.sector_images.specs.declared.format.Format.{Format}
 use Rattle.sector_images.specs.declared.format.Format.TheVariants.{Ibm3740, Ibm360, Ibm720, Ibm1440}
-use Rattle.sector_images.specs.declared.format.Format.TheVariants.{Numbered}
+use Rattle.sector_images.specs.declared.format.Format.TheVariants.{C1581, Numbered}
 use Rattle.track_shelf.specs.Stepping.{reaches_all}
+use Rattle.told_disks.specs.declared.heads.NamedHeads.{NamedHeads}
+use Rattle.told_disks.specs.declared.heads.NamedHeads.TheVariants.{Changed, First, Own}
 use Rattle.track_shelf.specs.declared.stepping.Stepping.{Stepping}
 
 -- the rate of a format that has one of IBM's recordings, and headers that name the drive's heads:
@@ -51,6 +53,13 @@ abbrev pub covers : Stepping → DiskNumbers → Format → Bool
 covers stepping numbers format =
     reaches_all stepping format && covers_at (rate_if_ibm format) format numbers
 
--- one of those that have names does
-abbrev pub is_covered : Stepping → DiskNumbers → Bool
-is_covered stepping numbers = list_any (covers stepping numbers) formats
+-- so does the Commodore 1581's disk, whose headers name on each head the other one
+abbrev pub is_1581 : Stepping → DiskNumbers → Bool
+is_1581 stepping numbers =
+    reaches_all stepping C1581 && are_within numbers (numbers_at C1581 Double)
+
+-- one of those that have names does, whose headers name these heads
+abbrev pub is_covered : NamedHeads → Stepping → DiskNumbers → Bool
+is_covered Own stepping numbers = list_any (covers stepping numbers) formats
+is_covered First stepping numbers = false
+is_covered Changed stepping numbers = is_1581 stepping numbers

@@ -8,6 +8,10 @@ use Rattle.ibm_disks.specs.declared.sector_size.SectorSize.{SectorSize}
 unfoldable pub has : (set : List Bool) → SectorSize → (number : ℕ) → Bool
 has set size number = nat_lt number 256 && get_or set (256 * code_of size + number) false
 
+-- it has one
+abbrev pub HasAny : (set : List Bool) → SectorSize → Type 0
+HasAny set size = (number : ℕ) × (has set size number ≡ true)
+
 -- the set of a track among those of all tracks
 abbrev pub set_at : (sets : List (List Bool)) → (track : ℕ) → List Bool
 set_at sets track = get_or sets track []

@@ -1,11 +1,11 @@
 -- What numbers of a disk the sets of its tracks tell. Track number 2 C + H is that of cylinder C and
 -- head H.
-use Rattle.std.specs.Prelude.{◌≡◌, ◌<◌, ◌≤◌, ◌⊎◌, ℕ, ◌+◌, ◌/◌, ◌%◌, Bool, true, List, Option, Some}
+use Rattle.std.specs.Prelude.{◌≡◌, ◌<◌, ◌≤◌, ◌⊎◌, ℕ, ◌+◌, ◌/◌, ◌%◌, Bool, List, Option, Some}
 use Rattle.std.specs.Prelude.{None}
 use Rattle.ibm_disks.specs.declared.sector_size.SectorSize.{SectorSize}
 use Rattle.track_shelf.specs.declared.stepping.Stepping.{Stepping}
 use Rattle.track_shelf.specs.declared.stepping.Stepping.TheVariants.{Single, Double}
-use Rattle.told_disks.specs.Names.{Counts, HasCounted, has, set_at}
+use Rattle.told_disks.specs.Names.{Counts, HasAny, HasCounted, set_at}
 use Rattle.told_disks.specs.declared.told.Told.{Told}
 
 -- The least and the greatest number that count, and one more than the greatest cylinder and the
@@ -27,8 +27,7 @@ TellsIf sets size (Some told) = Tells sets size told
 
 -- a track behind cylinder 0 has a number
 abbrev pub Reaches : (sets : List (List Bool)) → SectorSize → Type 0
-Reaches sets size =
-    (track number : ℕ) × (2 ≤ track) × (has (set_at sets track) size number ≡ true)
+Reaches sets size = (track : ℕ) × (2 ≤ track) × HasAny (set_at sets track) size
 
 -- The sets by one step of the drive for a cylinder, and by two. Two steps are looked at where a
 -- track behind cylinder 0 has a number so; one step where one has so, or none has by two.

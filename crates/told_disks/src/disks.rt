@@ -4,8 +4,10 @@ ghost use Rattle.std.specs.Prelude.{◌≡◌, ◌≤◌, ◌+◌, ◌++◌, Lis
 ghost use Rattle.std.specs.Vec.{vec_capacity};
 ghost use Rattle.told_disks.specs.Disks.{AreToldDisks, IsToldIf, numbers_of as numbers_by};
 ghost use Rattle.told_disks.specs.Told.{IsLookedAt, sets_by};
+ghost use Rattle.told_disks.specs.declared.heads.NamedHeads.TheVariants.{Own};
 ghost use Rattle.track_shelf.specs.declared.stepping.Stepping.TheVariants.{Single, Double};
 
+use crate::heads::NamedHeads;
 use crate::name_set::NameSet;
 use crate::named::is_covered;
 use crate::told::{Told, reaches, tell};
@@ -48,18 +50,24 @@ fn push_told(
     requires one { length one.now ≤ 198 }
     requires two { length two.now ≤ 198 }
     requires room { length disks.old.items + 2 ≤ vec_capacity disks.old }
-    ensures told { (first second : Option NumberedDisk) × IsToldIf rate size Single one.now two.now first
-        × IsToldIf rate size Double one.now two.now second
+    ensures told { (first second : Option NumberedDisk) × IsToldIf Own rate size Single one.now two.now first
+        × IsToldIf Own rate size Double one.now two.now second
         × (disks.new.items ≡ disks.old.items ++ option_to_list first ++ option_to_list second) }
     ensures few { length disks.new.items ≤ length disks.old.items + 2 }
     ensures capacity { vec_capacity disks.new ≡ vec_capacity disks.old }
 {
-    push_if(told_disk(rate, size, Stepping::Single, one, two), disks);
-    push_if(told_disk(rate, size, Stepping::Double, one, two), disks);
+    push_if(
+        told_disk(NamedHeads::Own, rate, size, Stepping::Single, one, two),
+        disks,
+    );
+    push_if(
+        told_disk(NamedHeads::Own, rate, size, Stepping::Double, one, two),
+        disks,
+    );
 }
 
 /// Appends a disk, if there is one.
-fn push_if(disk: Option<NumberedDisk>, disks: &mut Vec<NumberedDisk>)
+pub(crate) fn push_if<D: Copy>(disk: Option<D>, disks: &mut Vec<D>)
     requires { length disks.old.items + 1 ≤ vec_capacity disks.old }
     ensures items { disks.new.items ≡ disks.old.items ++ option_to_list disk }
     ensures few { length disks.new.items ≤ length disks.old.items + 1 }
@@ -71,8 +79,9 @@ fn push_if(disk: Option<NumberedDisk>, disks: &mut Vec<NumberedDisk>)
     }
 }
 
-/// The disk of a size by a step, if one is told.
-fn told_disk(
+/// The disk of a size by a step, if the sets tell one whose headers name these heads.
+pub(crate) fn told_disk(
+    heads: NamedHeads,
     rate: Rate,
     size: SectorSize,
     stepping: Stepping,
@@ -81,7 +90,7 @@ fn told_disk(
 ) -> Option<NumberedDisk>
     requires one { length one.now ≤ 198 }
     requires two { length two.now ≤ 198 }
-    ensures { IsToldIf rate size stepping one.now two.now result }
+    ensures { IsToldIf heads rate size stepping one.now two.now result }
 {
     if !is_looked_at(stepping, size, one, two) {
         return None;
@@ -90,7 +99,7 @@ fn told_disk(
         return None;
     };
     let numbers = numbers_of(rate, size, told);
-    if is_covered(stepping, &numbers) {
+    if is_covered(heads, stepping, &numbers) {
         return None;
     }
     match IbmDisk::of_numbers(numbers) {
@@ -100,7 +109,11 @@ fn told_disk(
 }
 
 /// The sets by a step.
-fn sets_of<'a>(stepping: Stepping, one: &'a [NameSet], two: &'a [NameSet]) -> &'a [NameSet]
+pub(crate) fn sets_of<'a>(
+    stepping: Stepping,
+    one: &'a [NameSet],
+    two: &'a [NameSet],
+) -> &'a [NameSet]
     ensures { result.now ≡ sets_by stepping one.now two.now }
 {
     match stepping {

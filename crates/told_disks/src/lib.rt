@@ -3,11 +3,15 @@
 #![tactic(auto)]
 
 mod disks;
+mod foreign;
+mod heads;
 mod laws;
 mod name_set;
 mod named;
 mod told;
 
 pub use disks::{NumberedDisk, push_disks};
-pub use laws::told_disks_are_one;
+pub use foreign::{ForeignDisk, TrackSets, push_foreign};
+pub use heads::NamedHeads;
+pub use laws::{foreign_disks_are_one, told_disks_are_one};
 pub use name_set::NameSet;

@@ -26,7 +26,8 @@ impl Model for NameSet {
 impl NameSet {
     /// Without a number.
     pub fn empty() -> NameSet
-        ensures { (size : Size) (number : ℕ) → has result size number ≡ false }
+        ensures has { (size : Size) (number : ℕ) → has result size number ≡ false }
+        ensures full { length result ≡ 1024 }
     {
         NameSet {
             bits: [false; 1024],
@@ -35,8 +36,9 @@ impl NameSet {
 
     /// Adds a number of a size.
     pub fn insert(&mut self, size: SectorSize, number: u8)
-        ensures { (other : Size) (n : ℕ)
+        ensures has { (other : Size) (n : ℕ)
             → has self.new other n ≡ ((nat_eq (code_of other) (code_of size) && nat_eq n number) || has self.old other n) }
+        ensures full { length self.new ≡ length self.old }
     {
         self.bits[256 * usize::from(size.code()) + usize::from(number)] = true;
     }

@@ -1,18 +1,41 @@
 //! Which numbers the disks cover that have names.
 
 ghost use Rattle.std.specs.Prelude.{◌≡◌, option_map};
-ghost use Rattle.told_disks.specs.Named.{are_within as are_within_of, covers as covers_by, is_covered as is_covered_by};
+ghost use Rattle.told_disks.specs.Named.{are_within as are_within_of, covers as covers_by, is_1581 as is_1581_of};
+ghost use Rattle.told_disks.specs.Named.{is_covered as is_covered_by};
+ghost use Rattle.told_disks.specs.declared.heads.NamedHeads.TheVariants.{Own};
 ghost use Rattle.told_disks.specs.Named.{numbers_at, rate_if_ibm};
 ghost use Rattle.ibm_disks.specs.Disks.{rate_of};
 ghost use Rattle.sector_images.specs.declared.format.Format.TheVariants.{Numbered};
 
+use crate::heads::NamedHeads;
 use ibm_disks::{DiskNumbers, IbmDisk, Rate};
 use sector_images::{Format, all_formats};
 use track_shelf::Stepping;
 
-/// Whether a disk that has a name, of which a drive with these steps reaches all tracks, covers the numbers.
-pub(crate) fn is_covered(stepping: Stepping, numbers: &DiskNumbers) -> bool
-    ensures { result ≡ is_covered_by stepping numbers.now }
+/// Whether a disk that has a name covers the numbers, whose headers name these heads, and of which a drive with these
+/// steps reaches all tracks.
+pub(crate) fn is_covered(heads: NamedHeads, stepping: Stepping, numbers: &DiskNumbers) -> bool
+    ensures { result ≡ is_covered_by heads stepping numbers.now }
+{
+    match heads {
+        NamedHeads::Own => is_covered_by_own(stepping, numbers),
+        NamedHeads::First => false,
+        NamedHeads::Changed => is_1581(stepping, numbers),
+    }
+}
+
+/// Whether the Commodore 1581's disk does.
+fn is_1581(stepping: Stepping, numbers: &DiskNumbers) -> bool
+    ensures { result ≡ is_1581_of stepping numbers.now }
+{
+    stepping.reaches_all(Format::C1581)
+        && are_within(numbers, &numbers_of(Rate::Double, 80, 2, 10, 512))
+}
+
+/// Whether a disk does whose headers name the drive's heads.
+fn is_covered_by_own(stepping: Stepping, numbers: &DiskNumbers) -> bool
+    ensures { result ≡ is_covered_by Own stepping numbers.now }
 {
     for format in all_formats() {
         if covers(stepping, numbers, *format) {

@@ -2,7 +2,7 @@
 
 ghost use Rattle.std.specs.Prelude.{◌≡◌, ◌≤◌, ◌<◌, ◌↔◌, ◌+◌, ◌*◌, ◌&&◌, ℕ, Bool, List, true, false, get_or, length, nat_le, nat_lt, IsTrue};
 ghost use Rattle.ibm_disks.specs.declared.sector_size.SectorSize.{SectorSize as Size};
-ghost use Rattle.told_disks.specs.Names.{Counts, HasCounted, count_of as count_in, has, set_at};
+ghost use Rattle.told_disks.specs.Names.{Counts, HasAny, HasCounted, count_of as count_in, has, set_at};
 ghost use Rattle.told_disks.specs.Told.{Reaches, TellsIf};
 ghost use Rattle.told_disks.specs.inside.Loops.{IsReachOrNone, IsSpanOrNone};
 
@@ -57,13 +57,20 @@ pub(crate) fn reaches(sets: &[NameSet], size: SectorSize) -> bool
     ensures yes { IsTrue result → Reaches sets.now size }
     ensures no { result ≡ false → Reaches sets.now size → ⊥ }
 {
-    let all = [true; 256];
     for track in 2..sets.len() {
-        if has_some(&sets[track], size, &all) {
+        if has_any(&sets[track], size) {
             return true;
         }
     }
     false
+}
+
+/// Whether a set has a number of a size.
+pub(crate) fn has_any(set: &NameSet, size: SectorSize) -> bool
+    ensures yes { IsTrue result → HasAny set.now size }
+    ensures no { result ≡ false → HasAny set.now size → ⊥ }
+{
+    has_some(set, size, &[true; 256])
 }
 
 /// On how many tracks a number of a size stands.

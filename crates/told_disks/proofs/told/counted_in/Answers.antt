@@ -1,4 +1,4 @@
-use Rattle.std.proofs.Common.{◌≡◌, ◌≤◌, ◌∙◌, ℕ, subst, arith}
+use Rattle.std.proofs.Common.{◌≡◌, ◌∙◌, ℕ, subst, arith}
 use Rattle.told_disks.proofs.Counting.{AreMarkedTo, IsMost, marked_all, marked_more}
 use Rattle.told_disks.proofs.told.counted_in.Goals as goal
 

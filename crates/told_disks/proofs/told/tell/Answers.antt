@@ -1,9 +1,3 @@
-use Rattle.std.proofs.Common.{◌≡◌, ◌<◌, ◌≤◌, ◌⊎◌, ℕ, Bool, true, false, List, get_or, length, Option, Some, None, subst, sym, ap, ◌∙◌, inl, inr, arith}
-use Rattle.std.proofs.lemmas.Bool.{cases_lt}
-use Rattle.told_disks.specs.Names.{Counts, HasCounted, has, set_at}
-use Rattle.told_disks.specs.declared.told.Reach.{Reach}
-use Rattle.told_disks.specs.declared.told.Span.{Span}
-use Rattle.told_disks.specs.inside.Loops.{IsReachOrNone, IsSpanOrNone}
 use Rattle.told_disks.proofs.Spans.{tells_from, tells_no_reach, tells_no_span}
 use Rattle.told_disks.proofs.told.tell.Goals as goal
 

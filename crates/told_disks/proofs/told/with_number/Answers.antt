@@ -1,4 +1,4 @@
-use Rattle.std.proofs.Common.{List, Bool, Option, subst, sym}
+use Rattle.std.proofs.Common.{Option, subst}
 use Rattle.told_disks.specs.declared.told.Span.{Span}
 use Rattle.told_disks.specs.inside.Loops.{IsSpanOrNone}
 use Rattle.told_disks.proofs.Spans.{span_first, span_last}

@@ -1,9 +1,8 @@
-use Rattle.std.proofs.Common.{◌≡◌, ◌∙◌, length, ap, sym, arith}
+use Rattle.std.proofs.Common.{◌∙◌, length, ap, sym, arith}
 use Rattle.sector_images.specs.Formats.{formats}
-use Rattle.sector_images.specs.declared.format.Format.TheVariants.{Ibm3740}
 use Rattle.told_disks.specs.Named.{covers}
 use Rattle.told_disks.proofs.Spans.{any_at}
-use Rattle.told_disks.proofs.named.is_covered.Goals as goal
+use Rattle.told_disks.proofs.named.is_covered_by_own.Goals as goal
 
 pub returns-then-covers : goal.returns-then-covers
 returns-then-covers c =

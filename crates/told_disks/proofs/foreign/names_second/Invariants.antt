@@ -1,0 +1,6 @@
+use Rattle.std.proofs.Common.{◌≡◌, ◌<◌, ◌%◌, ℕ}
+use Rattle.told_disks.specs.Names.{HasAny, set_at}
+use Rattle.told_disks.proofs.foreign.names_second.Given as goal
+
+abbrev pub invariant-loop-track : goal.invariant-loop-track
+invariant-loop-track l = (track : ℕ) → track % 2 ≡ 0 → track < l.track → HasAny (set_at l.sets track) l.size → ⊥
