@@ -154,9 +154,9 @@ def foreign_line(form, steps, heads):
 
 
 def identify(shelf, name, numbers=True):
-    """The outcome of `identify`: a line for each disk of which a sector is good, and the best of them. Disks by numbers are among them where
-    they are asked for."""
-    lines, any_file, failed, foreign, best = [], False, False, False, None
+    """The outcome of `identify`: a line for each disk of which a sector is good, then one for each whose headers name other heads, and the
+    best of those that were read. Disks by numbers are among them where they are asked for."""
+    lines, foreign, any_file, failed, best = [], [], False, False, None
     disks = candidates()
     if numbers:
         any_file = any(shelf.has(path_of(name, cylinder, head)) for cylinder in range(MOST_OWN_CYLINDERS) for head in (0, 1))
@@ -165,8 +165,7 @@ def identify(shelf, name, numbers=True):
     for form, steps, heads in disks:
         dumps, answer = Dumps(shelf, [name], steps, clocks=(0,)), DumpAnswer(form)
         if heads != OWN:
-            foreign = True
-            lines.append(foreign_line(form, steps, heads))
+            foreign.append(foreign_line(form, steps, heads))
         elif dumps.first_empty(form) is None:
             any_file = True
             read_tracks(dumps, form, answer, always=False)
@@ -178,5 +177,5 @@ def identify(shelf, name, numbers=True):
                     best = rank, words, complete
     if not any_file:
         return 2, b"", no_files_line(Dumps(shelf, [name]), 0)
-    lines.append(f"best {best[1] if best else 'none'}\n")
+    lines += [*foreign, f"best {best[1] if best else 'none'}\n"]
     return 8 if failed else 0 if best and best[2] and not foreign else 1, "".join(lines).encode(), b""
