@@ -1,0 +1,5 @@
+mod Parts
+mod Naming
+mod Headers
+mod HeldData
+mod Keeping
