@@ -8,7 +8,7 @@ ghost use Rattle.sector_images.specs.Places.{tracks};
 use crate::standard::StdSource;
 use flux_base::{Failed, Source, TrackId};
 use sector_images::{Format, track_count, track_id};
-use std::io::{ErrorKind, Read};
+use std::io::{ErrorKind, Read, Seek, SeekFrom};
 use std::rt::Files;
 use std::{fs, io};
 use track_shelf::{DumpKind, Path, Shelf, TrackPath, names_file};
@@ -24,10 +24,10 @@ struct Wanted {
     number: u32,
 }
 
-/// The files of the system as a shelf. No memory is taken. Each error of std is counted as a fault, save where `begin`
-/// and `open_file` do not find a file, and where it is only looked whether or what something is; so is a name that is
-/// no text, and a path of more than 4096 bytes. To `open_file` a file whose folder is a file is not there. A folder in
-/// the place of a track's file fails when it is read. It tells no bytes and no files.
+/// The files of the system as a shelf. No memory is taken. Each error of std is counted as a fault, save where `begin`,
+/// `open_file` and `open_at` do not find a file, and where it is only looked whether or what something is; so is a name
+/// that is no text, and a path of more than 4096 bytes. To `open_file` and `open_at` a file whose folder is a file is
+/// not there. A folder in the place of a file fails when it is read. It tells no bytes and no files.
 #[derive(Drop)]
 pub struct StdShelf<'a, R: Files> {
     files: &'a R,
@@ -155,6 +155,27 @@ fn open_track<R: Files>(files: &R, path: &TrackPath) -> Result<Option<R::File>, 
     }
 }
 
+/// The same as a source that is read from `offset` on. From 0 on it may be one that has no places, as a pipe.
+fn open_source<R: Files>(
+    files: &R,
+    path: &TrackPath,
+    offset: u64,
+) -> Result<Option<StdSource<R::File>>, Failed>
+    ensures { IfOk result (λ opened. IfSome opened (λ source. source.faults ≡ 0)) }
+{
+    match open_track(files, path) {
+        Ok(Some(file)) => {
+            let mut file = file;
+            if offset > 0 && file.seek(SeekFrom::Start(offset)).is_err() {
+                return Err(Failed);
+            }
+            Ok(Some(StdSource::new(file)))
+        }
+        Ok(None) => Ok(None),
+        Err(failed) => Err(failed),
+    }
+}
+
 /// Whether nothing lies there.
 fn is_missing(error: &io::Error) -> bool {
     error.kind() == ErrorKind::NotFound || error.kind() == ErrorKind::NotADirectory
@@ -276,14 +297,19 @@ impl<'a, R: Files> Shelf for StdShelf<'a, R> {
         dump: &[u8],
         track: TrackId,
     ) -> Result<Option<StdSource<R::File>>, Failed> {
-        match open_track(self.files, &TrackPath::of_dump(dump, track)) {
-            Ok(Some(file)) => Ok(Some(StdSource::new(file))),
-            Ok(None) => Ok(None),
-            Err(failed) => {
-                self.faults = self.faults.saturating_add(1);
-                Err(failed)
-            }
+        let opened = open_source(self.files, &TrackPath::of_dump(dump, track), 0);
+        if opened.is_err() {
+            self.faults = self.faults.saturating_add(1);
         }
+        opened
+    }
+
+    fn open_at(&mut self, path: &[u8], offset: u64) -> Result<Option<StdSource<R::File>>, Failed> {
+        let opened = open_source(self.files, &TrackPath::whole(path), offset);
+        if opened.is_err() {
+            self.faults = self.faults.saturating_add(1);
+        }
+        opened
     }
 
     fn close_file(&mut self, file: StdSource<R::File>) {

@@ -4,7 +4,7 @@ use Rattle.std.proofs.lemmas.List.{drop_all, drop_more, drop-drop, length-map, t
 use Rattle.std.specs.List.{concat, flat_map}
 use Rattle.sector_images.specs.Places.{tracks}
 use Rattle.sector_images.specs.declared.format.Format.{Format}
-use Rattle.track_shelf.specs.Files.{File, bytes_in, joined, track_bytes}
+use Rattle.track_shelf.specs.Files.{File, joined, track_bytes}
 use Rattle.track_shelf.specs.Memory.{ahead_from, bytes_at, cut_first, first_piece, pieces_of, with_bytes}
 
 -- pieces without those that are empty have the same bytes
@@ -113,10 +113,14 @@ concat-map : {X : Type 0} (content : X → List ℕ) (items : List X) → concat
 concat-map content [] = refl
 concat-map content (item ∷ items) = ap (λ (later : List ℕ). content item ++ later) (concat-map content items)
 
--- from the first place on all files are ahead
-pub all-ahead : (files : List File) (places : List ℕ) → ahead_from files places 0 0 ≡ with_bytes (map (bytes_at files) places)
+-- from the first place on all files are ahead, the first of them from this byte on
+pub ahead-at : (files : List File) (places : List ℕ) (start : ℕ)
+    → ahead_from files places 0 start ≡ with_bytes (cut_first start (map (bytes_at files) places))
 unfolding ahead_from
-all-ahead files places = ap with_bytes (cut-none (map (bytes_at files) places))
+ahead-at files places start = refl
+
+pub all-ahead : (files : List File) (places : List ℕ) → ahead_from files places 0 0 ≡ with_bytes (map (bytes_at files) places)
+all-ahead files places = ahead-at files places 0 ∙ ap with_bytes (cut-none (map (bytes_at files) places))
 
 -- of no files nothing is
 pub none-places : (files : List File) → ahead_from files [] 0 0 ≡ []
@@ -128,11 +132,6 @@ pub all-joined : (files : List File) (folder : List ℕ) (format : Format) → c
 unfolding joined
 all-joined files folder format =
     concat-with_bytes (map (track_bytes files folder) (tracks format)) ∙ concat-map (track_bytes files folder) (tracks format)
-
--- a single file
-pub one-joined : (file : Option File) → concat (with_bytes (pieces_of file)) ≡ bytes_in file
-one-joined None = ap concat with-none
-one-joined (Some file) = concat-with_bytes (file.bytes ∷ []) ∙ append-nil file.bytes
 
 -- the file at hand, and what is ahead after so many of its bytes
 pub record AtFile (files : List File) (places : List ℕ) (number start : ℕ) : Type 0 where
@@ -148,15 +147,20 @@ next-at files places number start below within =
     let h = at-hand (bytes_at files) places number 0 below start (omega (arith, within, size)) in
     record { rest = h.rest; is = h.is; after = h.after }
 
--- where a file has a place, its bytes are ahead
-pub opened-file : (files : List File) (places : List ℕ) (file : Option File) → map (bytes_at files) places ≡ pieces_of file
-    → (empty : Bool) → empty ≡ (length places == 0) → empty ≡ false → (ahead : List (List ℕ)) → ahead ≡ with_bytes (map (bytes_at files) places)
-    → (f : File) × (file ≡ Some f) × (Some (concat ahead) ≡ Some f.bytes)
-opened-file files places None same empty is some ahead all =
+-- where a file has a place, its bytes from this one on are ahead
+pub opened-file : (files : List File) (places : List ℕ) (file : Option File) (offset : ℕ) → map (bytes_at files) places ≡ pieces_of file
+    → (empty : Bool) → empty ≡ (length places == 0) → empty ≡ false
+    → (ahead : List (List ℕ)) → ahead ≡ with_bytes (cut_first offset (map (bytes_at files) places))
+    → (f : File) × (file ≡ Some f) × (Some (concat ahead) ≡ Some (drop offset f.bytes))
+opened-file files places None offset same empty is some ahead all =
     let size : length places ≡ 0 = sym (length-map places (bytes_at files)) ∙ ap length same in
     absurd (has (sym some ∙ is ∙ ap (λ n. n == 0) size))
   where
     has : false ≡ true → ⊥
     has same = cc
-opened-file files places (Some f) same empty is some ahead all =
-    (f, refl, ap Some (ap concat (all ∙ ap with_bytes same) ∙ one-joined (Some f)))
+opened-file files places (Some f) offset same empty is some ahead all = (
+  f,
+  refl,
+  ap Some (ap concat (all ∙ ap (λ pieces. with_bytes (cut_first offset pieces)) same)
+      ∙ concat-with_bytes (drop offset f.bytes ∷ []) ∙ append-nil (drop offset f.bytes)),
+)

@@ -1,6 +1,6 @@
 -- The files of dumps, and which of them a folder and a path have.
-use Rattle.std.specs.Prelude.{◌≡◌, ℕ, zero, suc, Bool, List, [], Option, Some, None, Result, Ok}
-use Rattle.std.specs.Prelude.{Err}
+use Rattle.std.specs.Prelude.{◌≡◌, ℕ, zero, suc, Bool, List, [], drop, Option, Some, None, Result}
+use Rattle.std.specs.Prelude.{Ok, Err}
 use Rattle.std.specs.List.{find, flat_map, position_from}
 use Rattle.std.specs.Option.{is_none}
 use Rattle.std.specs.Str.{bytes_eq}
@@ -61,14 +61,19 @@ LeavesWanted None folder format (Ok None) old new = Unit {0}
 LeavesWanted told folder format (Ok (Some number)) old new = new ≡ old
 LeavesWanted told folder format (Err _) old new = new ≡ old
 
--- an answer hands out the file of a path, all of whose bytes are still to come, where the files are
--- told; none, where there is none
+-- an answer hands out the file of a path, whose bytes from this place on are still to come, where
+-- the files are told; none, where there is none
+abbrev pub OpensAt : {F : Type 0} → (left : F → Option (List ℕ)) → Option (List File)
+    → (path : List ℕ) → (offset : ℕ) → Result (Option F) Failed → Type 0
+OpensAt left (Some files) path offset (Ok None) = file_at files path ≡ None
+OpensAt left (Some files) path offset (Ok (Some opened)) =
+    (file : File) × (file_at files path ≡ Some file) × (left opened ≡ Some (drop offset file.bytes))
+OpensAt left _ path offset _ = Unit {0}
+
+-- all its bytes are
 abbrev pub Opens : {F : Type 0} → (left : F → Option (List ℕ)) → Option (List File)
     → (path : List ℕ) → Result (Option F) Failed → Type 0
-Opens left (Some files) path (Ok None) = file_at files path ≡ None
-Opens left (Some files) path (Ok (Some opened)) =
-    (file : File) × (file_at files path ≡ Some file) × (left opened ≡ Some file.bytes)
-Opens left _ path _ = Unit {0}
+Opens left told path result = OpensAt left told path 0 result
 
 -- what is handed out has not failed
 abbrev pub NoneFailed : {F : Type 0} → (faults : F → ℕ) → Result (Option F) Failed → Type 0

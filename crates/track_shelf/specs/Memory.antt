@@ -90,22 +90,23 @@ abbrev pub pieces_of : Option File → List (List ℕ)
 pieces_of None = []
 pieces_of (Some file) = file.bytes ∷ []
 
--- the shelf after `open_file`
+-- the shelf after a file is opened
 abbrev pub after_open : ShelfState → ShelfState
 after_open s =
     if is_failing s.failing s.calls then after_fault s else record s { calls = risen s.calls }
 
--- What is handed out then is a shelf from which this file alone is to be read: its calls are
--- counted on from those so far, and fail by the same list, and none has failed.
-abbrev pub opened_of : ShelfState → Option File → Option ShelfState
-opened_of s None = None
-opened_of s (Some file) = Some (record s { ahead = with_bytes (pieces_of (Some file)); faults = 0 })
+-- What is handed out then is a shelf from which this file alone is to be read, from this place on:
+-- its calls are counted on from those so far, and fail by the same list, and none has failed.
+abbrev pub opened_of : ShelfState → (offset : ℕ) → Option File → Option ShelfState
+opened_of s offset None = None
+opened_of s offset (Some file) =
+    Some (record s { ahead = with_bytes (drop offset file.bytes ∷ []); faults = 0 })
 
--- what `open_file` answers for a path
-abbrev pub open_of : ShelfState → (path : List ℕ) → Result (Option ShelfState) Failed
-open_of s path =
+-- what the opening of the file of a path answers, to be read from a place on
+abbrev pub open_of : ShelfState → (path : List ℕ) → (offset : ℕ) → Result (Option ShelfState) Failed
+open_of s path offset =
     if is_failing s.failing s.calls then Err (record {})
-    else Ok (opened_of (after_open s) (file_at s.files path))
+    else Ok (opened_of (after_open s) offset (file_at s.files path))
 
 -- the shelf after an open file was taken back: calls are counted on from the file's
 abbrev pub after_close : ShelfState → (file : ShelfState) → ShelfState

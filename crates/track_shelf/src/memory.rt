@@ -8,8 +8,8 @@ ghost use Rattle.std.specs.Option.{is_some};
 ghost use Rattle.flux_base.specs.Memory.{is_failing};
 ghost use Rattle.flux_base.specs.Outside.{GivesPiece, IsCounted, Rose, risen};
 ghost use Rattle.sector_images.specs.Places.{tracks};
-ghost use Rattle.track_shelf.specs.Files.{CountsFromNone, LeavesWanted, NamesMissing, NoneFailed, Opens, file_at};
-ghost use Rattle.track_shelf.specs.Files.{first_missing, has_path, taken_over, track_bytes};
+ghost use Rattle.track_shelf.specs.Files.{CountsFromNone, LeavesWanted, NamesMissing, NoneFailed, Opens, OpensAt};
+ghost use Rattle.track_shelf.specs.Files.{file_at, first_missing, has_path, taken_over, track_bytes};
 ghost use Rattle.track_shelf.specs.DumpKinds.{kind_in, kind_of_folder, name_in, names_in};
 ghost use Rattle.track_shelf.specs.Memory.{ShelfState, after_begin, after_close, after_fault, after_open, after_read};
 ghost use Rattle.track_shelf.specs.Memory.{ahead_from, begin_of, bytes_at, cut_first, first_piece, open_of, pieces_of};
@@ -311,7 +311,7 @@ fn give(
 
 /// A shelf whose files lie in memory. A read gives the least of the chunk, the buffer's length and the bytes left of
 /// the file at hand, which is the first one that is asked for whose bytes are not all taken. The calls of `begin`,
-/// `open_file` and `read` whose numbers, from 0, are on a list answer `Failed` and are counted as faults; the reads of
+/// `open_file`, `open_at` and `read` whose numbers, from 0, are on a list answer `Failed` and are counted as faults; the reads of
 /// an open file are counted among them.
 #[derive(Debug, Drop)]
 pub struct MemoryShelf<'a> {
@@ -396,23 +396,44 @@ impl<'a> MemoryShelf<'a> {
         };
     }
 
-    /// The same files, from which those at these places are to be read.
-    fn opened(&self, places: Places) -> MemoryShelf<'a>
-        ensures { result
-            ≡ record self.now { ahead = with_bytes (map (bytes_at self.now.files) places.items); faults = 0 } }
+    /// The same files, from which those at these places are to be read, the first from `start` on.
+    fn opened(&self, places: Places, start: usize) -> MemoryShelf<'a>
+        ensures { result ≡ record self.now {
+          ahead = with_bytes (cut_first start (map (bytes_at self.now.files) places.items));
+          faults = 0;
+        } }
     {
         MemoryShelf {
             files: self.files,
             places,
-            next: Next {
-                number: 0,
-                start: 0,
-            },
+            next: Next { number: 0, start },
             chunk: self.chunk,
             failing: self.failing,
             calls: self.calls,
             faults: 0,
         }
+    }
+
+    /// Opens the file of a path, to be read from `offset` on.
+    fn open(&mut self, path: &TrackPath, offset: u64) -> Result<Option<MemoryShelf<'a>>, Failed>
+        ensures opened { OpensAt (λ (file : ShelfState). Some (concat file.ahead)) (Some self.old.files) path.now offset
+            result }
+        ensures sound { NoneFailed (λ (file : ShelfState). file.faults) result }
+        ensures fresh { CountsFromNone (λ (file : ShelfState). Some file.faults) (Some self.old.faults) result }
+        ensures left { self.new.ahead ≡ self.old.ahead }
+        ensures kept { self.new.files ≡ self.old.files }
+        ensures later { self.old.faults ≤ self.new.faults }
+        ensures cause { OnErr result (Rose self.old.faults self.new.faults) }
+        ensures counted { IsCounted (is_err result) (Some self.old.faults) (Some self.new.faults) }
+        ensures answer { result ≡ open_of self.old path.now offset }
+        ensures after { self.new ≡ after_open self.old }
+    {
+        self.count_call()?;
+        let places = find_file(self.files, path);
+        if places.is_empty() {
+            return Ok(None);
+        }
+        Ok(Some(self.opened(places, offset as usize)))
     }
 }
 
@@ -485,15 +506,26 @@ impl<'a> Shelf for MemoryShelf<'a> {
         ensures later { self.old.faults ≤ self.new.faults }
         ensures cause { OnErr result (Rose self.old.faults self.new.faults) }
         ensures counted { IsCounted (is_err result) (Some self.old.faults) (Some self.new.faults) }
-        ensures answer { result ≡ open_of self.old (path_text dump.now track) }
+        ensures answer { result ≡ open_of self.old (path_text dump.now track) 0 }
         ensures after { self.new ≡ after_open self.old }
     {
-        self.count_call()?;
-        let places = find_file(self.files, &TrackPath::of_dump(dump, track));
-        if places.is_empty() {
-            return Ok(None);
-        }
-        Ok(Some(self.opened(places)))
+        self.open(&TrackPath::of_dump(dump, track), 0)
+    }
+
+    fn open_at(&mut self, path: &[u8], offset: u64) -> Result<Option<MemoryShelf<'a>>, Failed>
+        ensures opened { OpensAt (λ (file : ShelfState). Some (concat file.ahead)) (Some self.old.files) path.now offset
+            result }
+        ensures sound { NoneFailed (λ (file : ShelfState). file.faults) result }
+        ensures fresh { CountsFromNone (λ (file : ShelfState). Some file.faults) (Some self.old.faults) result }
+        ensures left { Some (concat self.new.ahead) ≡ Some (concat self.old.ahead) }
+        ensures kept { Some self.new.files ≡ Some self.old.files }
+        ensures later { self.old.faults ≤ self.new.faults }
+        ensures cause { OnErr result (Rose self.old.faults self.new.faults) }
+        ensures counted { IsCounted (is_err result) (Some self.old.faults) (Some self.new.faults) }
+        ensures answer { result ≡ open_of self.old path.now offset }
+        ensures after { self.new ≡ after_open self.old }
+    {
+        self.open(&TrackPath::whole(path), offset)
     }
 
     fn close_file(&mut self, file: MemoryShelf<'a>)

@@ -15,7 +15,7 @@ pub type Path = ArrayString<4096>;
 pub(crate) const ENDING_SIZE: usize = 8;
 
 /// The path of a track's file, which takes no memory of its own: a part of the dump's name,
-/// and what the track adds to it.
+/// and what the track adds to it. Or any path, to which nothing is added.
 #[derive(Debug, Drop)]
 pub struct TrackPath<'a> {
     front: &'a [u8],
@@ -59,6 +59,16 @@ impl<'a> TrackPath<'a> {
         TrackPath {
             front: &dump[..dump.len() - ENDING_SIZE],
             back,
+        }
+    }
+
+    /// This path, as it is.
+    pub fn whole(path: &'a [u8]) -> TrackPath<'a>
+        ensures { result ≡ path.now }
+    {
+        TrackPath {
+            front: path,
+            back: Line::new(),
         }
     }
 

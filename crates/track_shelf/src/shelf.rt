@@ -2,8 +2,8 @@ ghost use Rattle.std.specs.Prelude.{◌≡◌, ℕ, ◌<◌, ◌≤◌, List, No
 ghost use Rattle.std.specs.Prelude.{IfOk, IfSome, OnErr};
 ghost use Rattle.flux_base.specs.Outside.{IsCounted, Rose};
 ghost use Rattle.sector_images.specs.Places.{tracks};
-ghost use Rattle.track_shelf.specs.Files.{CountsFromNone, File, LeavesWanted, NamesMissing, NoneFailed, Opens, file_at};
-ghost use Rattle.track_shelf.specs.Files.{taken_over};
+ghost use Rattle.track_shelf.specs.Files.{CountsFromNone, File, LeavesWanted, NamesMissing, NoneFailed, Opens, OpensAt};
+ghost use Rattle.track_shelf.specs.Files.{file_at, taken_over};
 ghost use Rattle.track_shelf.specs.Handled.{CountsToo, Handled, handled_close, handled_open, has_failed};
 ghost use Rattle.track_shelf.specs.DumpKinds.{IsKindOf};
 ghost use Rattle.track_shelf.specs.Names.{path_text};
@@ -59,6 +59,20 @@ pub trait Shelf: Source {
         ensures opened { Opens Self.File.left (files self.old) (path_text dump.now track) result }
         ensures handles { handled self.new
             ≡ option_map (handled_open (path_text dump.now track) result) (handled self.old) }
+        ensures sound { NoneFailed Self.File.faults result }
+        ensures fresh { CountsFromNone Self.File.failed (Self.failed self.old) result }
+        ensures left { Self.left self.new ≡ Self.left self.old }
+        ensures kept { files self.new ≡ files self.old }
+        ensures unread { Self.given self.new ≡ Self.given self.old }
+        ensures later { Self.faults self.old ≤ Self.faults self.new }
+        ensures cause { OnErr result (Rose (Self.faults self.old) (Self.faults self.new)) }
+        ensures counted { IsCounted (is_err result) (Self.failed self.old) (Self.failed self.new) };
+
+    /// Opens the file of a path, of which the bytes from `offset` on are still to come; none are where it is shorter.
+    /// None where there is no such file. What is done with the file touches nothing of the shelf. No memory is taken.
+    fn open_at(&mut self, path: &[u8], offset: u64) -> Result<Option<Self::File>, Failed>
+        ensures opened { OpensAt Self.File.left (files self.old) path.now offset result }
+        ensures handles { handled self.new ≡ option_map (handled_open path.now result) (handled self.old) }
         ensures sound { NoneFailed Self.File.faults result }
         ensures fresh { CountsFromNone Self.File.failed (Self.failed self.old) result }
         ensures left { Self.left self.new ≡ Self.left self.old }

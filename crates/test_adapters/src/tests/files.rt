@@ -57,10 +57,11 @@ pub struct StandIn<'a> {
     pub record: &'a Record,
 }
 
-/// A file that is open: its path, and the bytes that are still to come.
+/// A file that is open: its path, its bytes, and those that are still to come.
 #[derive(Drop)]
 pub struct Opened<'a> {
     path: &'a str,
+    bytes: &'a [u8],
     left: &'a [u8],
     record: &'a Record,
 }
@@ -118,6 +119,7 @@ impl<'a> Files for StandIn<'a> {
             self.is_free(path)?;
             return Ok(Opened {
                 path: NEW_FILE,
+                bytes: &[],
                 left: &[],
                 record: self.record,
             });
@@ -128,6 +130,7 @@ impl<'a> Files for StandIn<'a> {
             if *name == path {
                 return Ok(Opened {
                     path: name,
+                    bytes,
                     left: bytes,
                     record: self.record,
                 });
@@ -217,8 +220,13 @@ impl<'a> Write for Opened<'a> {
 }
 
 impl<'a> Seek for Opened<'a> {
-    fn seek(&mut self, _to: SeekFrom) -> io::Result<u64> {
-        unsupported()
+    fn seek(&mut self, to: SeekFrom) -> io::Result<u64> {
+        self.record.call("seek", self.path)?;
+        let SeekFrom::Start(place) = to else {
+            return unsupported();
+        };
+        self.left = &self.bytes[self.bytes.len().min(place as usize)..];
+        Ok(place)
     }
 }
 

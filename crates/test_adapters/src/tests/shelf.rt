@@ -329,3 +329,60 @@ fn an_open_file_gives_its_own_bytes(rt: HostRuntime) -> Result<(), Fail> {
     }
     Ok(())
 }
+
+/// Where a file is read from, its bytes from there on, and the calls by which it is opened.
+const FROM: [(u64, &[u8], &str); 4] = [
+    (0, b"defgh", "open dump/track01.1.raw\n"),
+    (
+        2,
+        b"fgh",
+        "open dump/track01.1.raw\nseek dump/track01.1.raw\n",
+    ),
+    (5, b"", "open dump/track01.1.raw\nseek dump/track01.1.raw\n"),
+    (
+        1 << 40,
+        b"",
+        "open dump/track01.1.raw\nseek dump/track01.1.raw\n",
+    ),
+];
+
+#[test]
+fn a_file_is_read_from_a_place_on(rt: HostRuntime) -> Result<(), Fail> {
+    let alloc = rt.alloc();
+    for (offset, bytes, calls) in FROM {
+        let record = Record::new(alloc, NONE, ErrorKind::Other);
+        let files = StandIn {
+            files: FILES.as_slice(),
+            folders: &[],
+            record: &record,
+        };
+        let mut shelf = StdShelf::new(&files);
+        match shelf.open_at(b"dump/track01.1.raw", offset) {
+            Ok(Some(mut file)) => {
+                has_bytes(&rt, &mut file, bytes);
+                shelf.close_file(file);
+            }
+            _ => assert!(rt; false, "{offset}"),
+        }
+        assert!(rt; matches!(shelf.open_at(b"dump", offset), Ok(None)));
+        assert!(rt; record.lines().starts_with(calls), "{offset}");
+    }
+    Ok(())
+}
+
+// A file that cannot be read from there on has failed.
+#[test]
+fn each_call_fails_by_which_a_file_is_opened_at_a_place(rt: HostRuntime) -> Result<(), Fail> {
+    for number in 0..2 {
+        let record = Record::new(rt.alloc(), number, ErrorKind::Other);
+        let files = StandIn {
+            files: FILES.as_slice(),
+            folders: &[],
+            record: &record,
+        };
+        let mut shelf = StdShelf::new(&files);
+        let failed = matches!(shelf.open_at(b"dump/track01.1.raw", 2), Err(Failed));
+        assert!(rt; failed, "call {number}");
+    }
+    Ok(())
+}
