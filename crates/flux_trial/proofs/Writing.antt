@@ -3,6 +3,7 @@ use Rattle.std.proofs.Common.{◌≡◌, ◌≤◌, ◌<◌, ◌+◌, ◌^◌, �
 use Rattle.std.proofs.lemmas.List.{length-take-le}
 use Rattle.std.proofs.lemmas.List.Elements.{All-weaker}
 use Rattle.flux_base.specs.Outside.{AppendsPart, Rose}
+use Rattle.track_rings.specs.Rings.{last_in}
 use Rattle.flux_writer.specs.Reading.{EndsWithTransition}
 use Rattle.flux_writer.specs.Written.{stream_of_times}
 use Rattle.std.specs.Prelude.{Some, slice_get}
@@ -39,7 +40,10 @@ module _ (keep : TracksKeepBounds) (format : Format) (seed number cell : ℕ) (t
       subst (λ (ts : List ℕ). EndsWithTransition ts indexes) (sym times_are)
       (subst (EndsWithTransition (trial_times d ring)) (sym indexes_are) (ends-with-transition d ring usual is))
 
-  pub few : length times + length indexes ≤ 1048576
+  pub near : last_in indexes < last_in times + 2 ^ 32
+  near = (let four = four_indexes d ring in omega (arith, ends (omega (arith, ap length indexes_are, four))))
+
+  pub few : length times + length indexes ≤ 16777216
   few = omega (arith, ap length times_are, ap length indexes_are, times-few d ring usual is, four_indexes d ring)
 
   pub early : All (λ time. time ≤ 2 ^ 39) times

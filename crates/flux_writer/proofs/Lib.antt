@@ -16,3 +16,4 @@ pub mod ReadsBack
 pub mod Sizes
 pub mod CellsRead
 pub mod Words
+pub mod Trailing

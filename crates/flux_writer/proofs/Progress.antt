@@ -157,15 +157,13 @@ module _ (times items : List ℕ) (k : ℕ) (same : items ≡ times) (inside : k
         (IsWritten-more old mid new [] 0 0 indexes held position begin left (take k times) w (get_or items k 0 ∷ []) held' position' time' left'
         (IsWritten-one mid new held position begin (get_or items k 0) left held' position' time' left' g position_is time_is left_is))
 
-    pub IsWritten-fails : IsStrictlyIncreasing indexes
-        → AppendsPart mid new (held ++ spellings (next_blocks position begin (get_or items k 0) left))
-        → AppendsPart old new (stream_of_times times indexes)
-    IsWritten-fails rising part =
-        part_of_stream old new times indexes rising
-        (part_of_more old new [] 0 0 times (take k times ++ get_or items k 0 ∷ []) (drop (k + 1) times) indexes
+    pub IsWritten-fails : AppendsPart mid new (held ++ spellings (next_blocks position begin (get_or items k 0) left))
+        → AppendsPart old new (spellings (many_blocks 0 0 times indexes))
+    IsWritten-fails part =
+        part_of_more old new [] 0 0 times (take k times ++ get_or items k 0 ∷ []) (drop (k + 1) times) indexes
         (ap (λ front. front ++ drop (k + 1) times) (sym next-is) ∙ take-append-drop (k + 1) times)
         (IsWritten-part old mid new [] 0 0 indexes held position begin left (take k times) w (get_or items k 0 ∷ [])
-        (part_of_one mid new held position begin (get_or items k 0) left part)))
+        (part_of_one mid new held position begin (get_or items k 0) left part))
 
 -- index times in ticks are the times
 pub ticks_are : (xs : List ℕ) → map (ticks_of Ticks) xs ≡ xs

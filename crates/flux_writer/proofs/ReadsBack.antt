@@ -35,7 +35,7 @@ position_within position begin (t ∷ ts) indexes =
     )
 
 -- all that rise lie before what the last lies before
-all_early : (xs : List ℕ) (time : ℕ) → Rises xs → last_in xs < time → All (λ x. x < time) xs
+pub all_early : (xs : List ℕ) (time : ℕ) → Rises xs → last_in xs < time → All (λ x. x < time) xs
 all_early [] time rises early = All-nil (λ x. x < time)
 all_early (x ∷ []) time rises early = All-cons (λ y. y < time) x [] early (All-nil (λ y. y < time))
 all_early (x ∷ y ∷ ys) time rises early =

@@ -140,13 +140,11 @@ pub record IndexesWritten (old new : Option (List ℕ)) (held held' : List ℕ) 
   pub before : done ++ indexes_before end left ≡ indexes_before end indexes
   pub behind : indexes_from end left ≡ indexes_from end indexes
 
-spellings-snoc : (position begin : ℕ) (done : List ℕ) (index : ℕ)
-    → spellings (map (index_block position begin) done) ++ spelling (index_block position begin index)
-    ≡ spellings (map (index_block position begin) (done ++ index ∷ []))
-spellings-snoc position begin done index = sym
-    (ap spellings (map-append (index_block position begin) done (index ∷ []))
-    ∙ spellings-append (map (index_block position begin) done) (index_block position begin index ∷ [])
-    ∙ ap (λ bytes. spellings (map (index_block position begin) done) ++ bytes) (append-nil (spelling (index_block position begin index))))
+pub spellings-snoc : (block : ℕ → Block) (done : List ℕ) (index : ℕ)
+    → spellings (map block done) ++ spelling (block index) ≡ spellings (map block (done ++ index ∷ []))
+spellings-snoc block done index = sym
+    (ap spellings (map-append block done (index ∷ [])) ∙ spellings-append (map block done) (block index ∷ [])
+    ∙ ap (λ bytes. spellings (map block done) ++ bytes) (append-nil (spelling (block index))))
 
 module _ (old mid new : Option (List ℕ)) (held held' : List ℕ) (position begin end : ℕ) (indexes lefts : List ℕ) (index : ℕ) (left bytes : List ℕ)
     (w : IndexesWritten old mid held held' position begin end indexes lefts) (is : lefts ≡ index ∷ left) (before : index < end)
@@ -160,7 +158,7 @@ module _ (old mid new : Option (List ℕ)) (held held' : List ℕ) (position beg
       → IndexesWritten old new held held'' position begin end indexes left
   IndexesWritten-more held'' g = record {
     done = w.done ++ index ∷ [];
-    bytes = subst (Gathers old new held held'') (spellings-snoc position begin w.done index)
+    bytes = subst (Gathers old new held held'') (spellings-snoc (index_block position begin) w.done index)
         (Gathers-more old mid new held held' (spellings (map (index_block position begin) w.done))
         (spelling (index_block position begin index)) w.bytes held'' (subst (Gathers mid new held' held'') spelled g));
     before = all_before;
@@ -175,7 +173,7 @@ module _ (old mid new : Option (List ℕ)) (held held' : List ℕ) (position beg
       ≡ spellings (map (index_block position begin) (indexes_before end indexes)) =
       sym (append_assoc (spellings (map (index_block position begin) w.done)) (spelling (index_block position begin index))
       (spellings (map (index_block position begin) (indexes_before end left))))
-      ∙ ap (λ front. front ++ spellings (map (index_block position begin) (indexes_before end left))) (spellings-snoc position begin w.done index)
+      ∙ ap (λ front. front ++ spellings (map (index_block position begin) (indexes_before end left))) (spellings-snoc (index_block position begin) w.done index)
       ∙ sym (spellings-append (map (index_block position begin) (w.done ++ index ∷ [])) (map (index_block position begin) (indexes_before end left)))
       ∙ ap spellings (sym (map-append (index_block position begin) (w.done ++ index ∷ []) (indexes_before end left)))
       ∙ ap (λ xs. spellings (map (index_block position begin) xs)) all_before in

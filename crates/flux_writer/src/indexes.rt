@@ -45,6 +45,13 @@ impl<'a> IndexTimes<'a> {
         }
     }
 
+    /// The next index time.
+    pub(crate) fn next(&self) -> Option<u64>
+        ensures { result ≡ slice_get self.now 0 }
+    {
+        self.next
+    }
+
     /// The next index time, if it lies before `end`.
     #[inline]
     pub(crate) fn next_before(&self, end: u64) -> Option<u64>

@@ -4,6 +4,7 @@ ghost use Rattle.flux_base.specs.World.{sink_at};
 ghost use Rattle.kryo_stream.specs.Spelling.{spelling, flux_spelling};
 ghost use Rattle.flux_writer.specs.inside.Gathering.{Holds};
 ghost use Rattle.kryo_stream.specs.Sequence.{spellings};
+ghost use Rattle.flux_writer.specs.Trailing.{trailing_block};
 ghost use Rattle.flux_writer.specs.Written.{index_block, interval_blocks};
 ghost use Rattle.flux_writer.specs.inside.Writing.{ticks_of, AreCounted, indexes_before, indexes_from, next_blocks};
 ghost use Rattle.flux_writer.specs.inside.Writing.{last_blocks};
@@ -73,7 +74,25 @@ impl<'a> StreamWriter<'a> {
         }
     }
 
-    /// Writes what stands after the last interval.
+    /// Writes the index times that are left behind the last interval.
+    pub(crate) fn write_trailing<W: Sink>(&mut self, sink: &mut W) -> Result<(), Failed>
+        requires begun { All (λ index. self.old.time ≤ index) self.old.indexes }
+        requires near { All (λ index. index < self.old.time + 2 ^ 32) self.old.indexes }
+        ensures holds { Holds (sink_at W.Sink sink.old) (sink_at W.Sink sink.new) self.old.piece self.new.piece
+            (spellings (map (trailing_block self.old.position self.old.time) self.old.indexes)) result }
+        ensures position { self.new.position ≡ self.old.position }
+    {
+        while let Some(index) = self.indexes.next() {
+            let bytes = trailing_bytes(self.position, self.time, index);
+            match self.piece.put(&bytes, sink) {
+                Ok(()) => self.indexes.pass(),
+                Err(failed) => return Err(failed),
+            }
+        }
+        Ok(())
+    }
+
+    /// Writes the end of the stream.
     pub(crate) fn finish<W: Sink>(&mut self, sink: &mut W) -> Result<(), Failed>
         ensures { Puts (sink_at W.Sink sink.old) (sink_at W.Sink sink.new)
             (self.old.piece ++ spellings (last_blocks self.old.position)) result }
@@ -220,6 +239,17 @@ fn index_bytes(position: u32, begin: u64, index: u64) -> [u8; 16]
     let sample = (since % OVERFLOW_TICKS) as u32;
     let counter = (index / INDEX_CLOCK % COUNTER_RANGE) as u32;
     index_spelling(block, sample, counter)
+}
+
+/// The bytes of the Index block of an index time that stands behind a last transition, which the stream has at this
+/// time and before this position.
+fn trailing_bytes(position: u32, last: u64, index: u64) -> [u8; 16]
+    requires order { last ≤ index }
+    requires near { index < last + 2 ^ 32 }
+    ensures { result ≡ spelling (trailing_block position last index) }
+{
+    let counter = (index / INDEX_CLOCK % COUNTER_RANGE) as u32;
+    index_spelling(position, (index - last) as u32, counter)
 }
 
 /// The bytes of the StreamEnd and End blocks after so many in-stream bytes.

@@ -1,4 +1,4 @@
-use Rattle.std.proofs.Common.{◌≡◌, ◌≤◌, ℕ, List, drop, ◌∙◌, arith, ap}
+use Rattle.std.proofs.Common.{◌≡◌, ◌≤◌, ℕ, List, drop, ◌∙◌, ap}
 use Rattle.std.proofs.lemmas.List.Elements.{All-drop}
 use Rattle.flux_base.specs.lemmas.Counting.{Counts-then}
 use Rattle.kryo_stream.specs.Spelling.{spelling}
