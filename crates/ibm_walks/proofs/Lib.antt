@@ -1,0 +1,4 @@
+mod OneSector
+mod Searches
+mod Syncs
+mod Walks

@@ -1,0 +1,4 @@
+pub mod Rates
+pub mod Headers
+pub mod Walks
+pub mod inside
