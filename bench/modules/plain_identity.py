@@ -1,6 +1,6 @@
 """Which disk a dump is of, off the definitions: each format that has a name, and the disks by numbers that the dump's own headers tell."""
 from plain import FORMATS, RATES, numbered
-from plain_dumps import MOST_DOUBLE_CYLINDERS, DumpAnswer, Dumps, Failed, no_files_line, path_of, reaches_all, read_tracks
+from plain_dumps import MOST_CYLINDERS, MOST_DOUBLE_CYLINDERS, DumpAnswer, Dumps, Failed, no_files_line, path_of, reaches_all, read_tracks
 from plain_recordings import IbmFm, IbmMfm, places_of
 from plain_streams import Refused, Stream, recovered
 
@@ -25,19 +25,17 @@ def found(form, steps, answer):
 # The disks by numbers
 
 def file_streams(shelf, dump):
-    """The streams of a dump's files by cylinder and head, of those that are no refused ones; and whether one failed."""
-    streams, failed = {}, False
+    """The streams of a dump's files by cylinder and head, of those that came and are no refused ones."""
+    streams = {}
     for cylinder in range(MOST_OWN_CYLINDERS):
         for head in (0, 1):
             try:
                 content = shelf.read(path_of(dump, cylinder, head))
                 if content is not None:
                     streams[cylinder, head] = Stream(content, 0)
-            except Failed:
-                failed = True
-            except Refused:
+            except (Failed, Refused):
                 pass
-    return streams, failed
+    return streams
 
 
 def is_of_rate(rate, stream, cells, place, data_place):
@@ -127,8 +125,8 @@ def foreign_heads(names, code, steps):
 
 
 def disks_by_numbers(shelf, dump):
-    """The candidates in order, each a format, its steps, and the heads that its headers name; and whether a file failed."""
-    streams, failed = file_streams(shelf, dump)
+    """The candidates in order, each a format, its steps, and the heads that its headers name."""
+    streams = file_streams(shelf, dump)
     disks = []
     for rate in RATES:
         names = {track: names_with_data(rate, stream) for track, stream in streams.items()}
@@ -137,7 +135,7 @@ def disks_by_numbers(shelf, dump):
                 for heads in (OWN, foreign_heads(names, code, steps)):
                     form = by_numbers(rate, names, code, steps, heads)
                     disks += [(form, steps, heads)] * (form is not None)
-    return disks, failed
+    return disks
 
 
 # The best of all
@@ -145,6 +143,17 @@ def disks_by_numbers(shelf, dump):
 def candidates():
     """The disks with names that a dump may be of: each format, with the steps that the drive made for one of its cylinders."""
     return [(form, steps, OWN) for form in FORMATS.values() for steps in ((1, 2) if reaches_all(form) else (1,))]
+
+
+def has_failed(shelf, dump):
+    """Whether one of all files that the dump may have fails, be it a track of a disk or not."""
+    for cylinder in range(MOST_CYLINDERS):
+        for head in (0, 1):
+            try:
+                shelf.read(path_of(dump, cylinder, head))
+            except Failed:
+                return True
+    return False
 
 
 def foreign_line(form, steps, heads):
@@ -156,12 +165,11 @@ def foreign_line(form, steps, heads):
 def identify(shelf, name, numbers=True):
     """The outcome of `identify`: a line for each disk of which a sector is good, then one for each whose headers name other heads, and the
     best of those that were read. Disks by numbers are among them where they are asked for."""
-    lines, foreign, any_file, failed, best = [], [], False, False, None
+    lines, foreign, any_file, best = [], [], False, None
     disks = candidates()
     if numbers:
         any_file = any(shelf.has(path_of(name, cylinder, head)) for cylinder in range(MOST_OWN_CYLINDERS) for head in (0, 1))
-        more, failed = disks_by_numbers(shelf, name)
-        disks += more
+        disks += disks_by_numbers(shelf, name)
     for form, steps, heads in disks:
         dumps, answer = Dumps(shelf, [name], steps, clocks=(0,)), DumpAnswer(form)
         if heads != OWN:
@@ -169,7 +177,6 @@ def identify(shelf, name, numbers=True):
         elif dumps.first_empty(form) is None:
             any_file = True
             read_tracks(dumps, form, answer, always=False)
-            failed |= answer.failed > 0
             if answer.number["good"]:
                 line, rank, words, complete = found(form, steps, answer)
                 lines.append(line)
@@ -178,4 +185,4 @@ def identify(shelf, name, numbers=True):
     if not any_file:
         return 2, b"", no_files_line(Dumps(shelf, [name]), 0)
     lines += [*foreign, f"best {best[1] if best else 'none'}\n"]
-    return 8 if failed else 0 if best and best[2] and not foreign else 1, "".join(lines).encode(), b""
+    return 8 if has_failed(shelf, name) else 0 if best and best[2] and not foreign else 1, "".join(lines).encode(), b""

@@ -29,8 +29,10 @@ read-all dump told candidate o is good = record {
 }
 
 pub all-files : LinesAreOfAllFiles
-all-files dump start now candidate totals came good = record {
-  outcome = came.outcome;
-  is = read-all dump start.told.files candidate came.outcome came.is (ap (λ (t : DumpTotals). nat_lt 0 t.sectors.good) (sym came.totals_are) ∙ good);
-  totals_are = came.totals_are;
-}
+all-files dump told came candidate totals came_to good =
+    let n = came_to.numbers in
+    record {
+      outcome = n.outcome;
+      is = read-all dump told candidate n.outcome n.is (ap (λ (t : DumpTotals). nat_lt 0 t.sectors.good) (sym n.totals_are) ∙ good);
+      totals_are = n.totals_are;
+    }

@@ -1,8 +1,10 @@
-pub mod AllFiles
-pub mod Best
-pub mod Complete
-pub mod Moments
-pub mod One
-pub mod Readings
 pub mod Rooms
-pub mod Tries
+pub mod Best
+pub mod Held
+pub mod ReadSteps
+pub mod Failures
+pub mod Tellings
+pub mod Saying
+pub mod AllFiles
+pub mod Complete
+pub mod One

@@ -1,17 +1,21 @@
 -- What saying which disk a dump is of may answer, and what that says of the dump and
 -- of the bytes that were written.
-use Rattle.std.specs.Prelude.{◌≡◌, ◌⊎◌, ℕ, true, false, List, [], ◌∷◌, ◌++◌, map, Option, Result}
-use Rattle.std.specs.Prelude.{Ok, Err}
+use Rattle.std.specs.Prelude.{All, ◌≡◌, ◌⊎◌, ℕ, true, List, [], ◌∷◌, ◌++◌, length, map, Option}
+use Rattle.std.specs.Prelude.{Result, Ok, Err}
 use Rattle.std.specs.Io.KnownBytes.{Appends, Keeps}
 use Rattle.std.specs.List.{list_any}
 use Rattle.flux_engine.specs.Answers.{AppendsAndPart}
+use Rattle.flux_engine.specs.Plans.{Seen}
 use Rattle.flux_engine.specs.declared.fault.Stopped.{Stopped}
 use Rattle.flux_engine.specs.declared.fault.Stopped.TheVariants.{ReadFault, ImageFault}
 use Rattle.flux_engine.specs.declared.fault.Stopped.TheVariants.{NotesFault, Refused}
+use Rattle.track_shelf.specs.Files.{File}
+use Rattle.dump_reading.specs.DumpStreams.{HaveComeOf}
 use Rattle.dump_reading.specs.Files.{ShelfNow}
 use Rattle.dump_reading.specs.declared.fault.NoFiles.{NoFiles}
+use Rattle.dump_tallies.specs.Files.{MOST_FILES, of_files}
 use Rattle.dump_identity.specs.Candidates.{candidates}
-use Rattle.dump_identity.specs.Findings.{AreFindings, best_of, has_files, identity_of}
+use Rattle.dump_identity.specs.Findings.{AreFindings, IsEmptyAs, best_of, has_files, identity_of}
 use Rattle.dump_identity.specs.Lines.{best_text, line_of, lines_of}
 use Rattle.dump_identity.specs.declared.candidate.Candidate.{Candidate}
 use Rattle.dump_identity.specs.declared.finding.Finding.{Finding}
@@ -20,18 +24,25 @@ use Rattle.dump_identity.specs.declared.identity.Identity.{Identity}
 abbrev pub candidates_in : List Finding → List Candidate
 candidates_in findings = map (λ f. f.candidate) findings
 
+-- All files that the dump may have were opened once between two moments of the shelf, and this came
+-- of them. Of what the shelf tells of itself nothing changed, but which of them failed.
+pub record AllCame (dump : List ℕ) (start now : ShelfNow) : Type 0 where
+  pub came : List Seen
+  pub many : length came ≡ MOST_FILES
+  pub have : HaveComeOf (of_files dump) start now came
+
 -- what all candidates come to, in order
-pub record AreAllFindings (dump : List ℕ) (start now : ShelfNow)
+pub record AreAllFindings (dump : List ℕ) (told : Option (List File)) (came : List Seen)
     (findings : List Finding) : Type 0 where
   pub all : candidates_in findings ≡ candidates
-  pub are : AreFindings dump start now findings
+  pub are : AreFindings dump told came findings
 
 -- what the first candidates come to
-pub record AreFirstFindings (dump : List ℕ) (start now : ShelfNow)
+pub record AreFirstFindings (dump : List ℕ) (told : Option (List File)) (came : List Seen)
     (findings : List Finding) : Type 0 where
   pub behind : List Candidate
   pub first : candidates_in findings ++ behind ≡ candidates
-  pub are : AreFindings dump start now findings
+  pub are : AreFindings dump told came findings
 
 -- what is said of a dump: the bytes that are written, and what is known
 pub record Identified : Type 0 where
@@ -40,20 +51,19 @@ pub record Identified : Type 0 where
 
 -- between two moments of the shelf, by the files that are told
 pub record IsIdentified (dump : List ℕ) (start now : ShelfNow) (o : Identified) : Type 0 where
+  pub files : AllCame dump start now
   pub findings : List Finding
-  pub all : AreAllFindings dump start now findings
+  pub all : AreAllFindings dump start.told.files files.came findings
   pub some : list_any has_files findings ≡ true
   pub is : o
       ≡ record {
         lines = lines_of findings ++ best_text (best_of findings);
-        identity = identity_of findings;
+        identity = identity_of files.came findings;
       }
 
 -- the dump has no file of any track of any of these disks
-pub record HasNoFiles (dump : List ℕ) (start now : ShelfNow) : Type 0 where
-  pub findings : List Finding
-  pub all : AreAllFindings dump start now findings
-  pub none : list_any has_files findings ≡ false
+abbrev pub HasNoFiles : (dump : List ℕ) → (told : Option (List File)) → Type 0
+HasNoFiles dump told = All (IsEmptyAs dump told) candidates
 
 -- all of it was written
 pub record WroteIdentity (dump : List ℕ) (start now : ShelfNow) (lines lines' : Option (List ℕ))
@@ -63,20 +73,22 @@ pub record WroteIdentity (dump : List ℕ) (start now : ShelfNow) (lines lines' 
   pub grew : Appends lines lines' outcome.lines
   pub identity_is : identity ≡ outcome.identity
 
--- the lines of the first candidates were written, and of the next one's line
+-- all files were read, the lines of the first candidates were written, and of the next one's line
 -- a part that is shorter than it
 pub record WroteIntoLine (dump : List ℕ) (start now : ShelfNow)
     (lines lines' : Option (List ℕ)) : Type 0 where
+  pub files : AllCame dump start now
   pub findings : List Finding
   pub next : Finding
-  pub first : AreFirstFindings dump start now (findings ++ next ∷ [])
+  pub first : AreFirstFindings dump start.told.files files.came (findings ++ next ∷ [])
   pub grew : AppendsAndPart lines lines' (lines_of findings) (line_of next)
 
 -- all was written but the last line: of it a part that is shorter than it
 pub record WroteIntoBest (dump : List ℕ) (start now : ShelfNow)
     (lines lines' : Option (List ℕ)) : Type 0 where
+  pub files : AllCame dump start now
   pub findings : List Finding
-  pub all : AreAllFindings dump start now findings
+  pub all : AreAllFindings dump start.told.files files.came findings
   pub grew : AppendsAndPart lines lines' (lines_of findings) (best_text (best_of findings))
 
 -- What an answer says. A dump without files is told before anything is written, as
@@ -88,7 +100,7 @@ SaysOfIdentity dump start now lines lines' (Ok identity) =
     WroteIdentity dump start now lines lines' identity
 SaysOfIdentity dump start now lines lines' (Err ReadFault) = ⊥
 SaysOfIdentity dump start now lines lines' (Err (Refused empty)) =
-    (empty.dump ≡ 0) × HasNoFiles dump start now × (now ≡ start) × Keeps lines lines'
+    (empty.dump ≡ 0) × HasNoFiles dump start.told.files × (now ≡ start) × Keeps lines lines'
 SaysOfIdentity dump start now lines lines' (Err ImageFault) =
     WroteIntoLine dump start now lines lines' ⊎ WroteIntoBest dump start now lines lines'
 SaysOfIdentity dump start now lines lines' (Err NotesFault) = ⊥

@@ -1,8 +1,7 @@
--- What is taken for a candidate before it is tried.
-use Rattle.flux_engine.specs.Room.{empty_book}
+-- What is taken for a candidate before the dump is read.
+use Rattle.dump_tallies.specs.Tallies.{TalliedDisk, no_tallies}
 use Rattle.dump_identity.specs.declared.candidate.Candidate.{Candidate}
-use Rattle.dump_identity.specs.declared.room.Trial.{Trial}
 
--- an empty book for its tracks
-abbrev pub trial_of : Candidate → Trial
-trial_of candidate = record { candidate = candidate; book = empty_book candidate.format }
+-- the disk, of which no file came
+abbrev pub trial_of : Candidate → TalliedDisk
+trial_of candidate = no_tallies candidate.stepping candidate.format

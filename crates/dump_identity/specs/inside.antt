@@ -1,3 +1,2 @@
 -- What the crate's own functions say to one another: no public contract cites it.
-pub mod Findings
 pub mod Outcomes

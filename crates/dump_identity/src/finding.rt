@@ -1,8 +1,8 @@
 //! What reading a dump as a disk comes to.
 
 ghost use Rattle.std.specs.Prelude.{◌≡◌};
-ghost use Rattle.dump_identity.specs.Findings.{beats, bytes_in, good_in, has_failed, has_files, has_good, is_complete};
-ghost use Rattle.dump_identity.specs.Findings.{lost_in, sectors_in, whole_in};
+ghost use Rattle.dump_identity.specs.Findings.{beats, bytes_in, good_in, has_files, has_good, is_complete};
+ghost use Rattle.dump_identity.specs.Findings.{sectors_in, whole_in};
 
 use crate::candidate::Candidate;
 use disk_recordings::sectors_of;
@@ -30,13 +30,6 @@ impl Finding {
         ensures { result ≡ has_good self.now }
     {
         self.good() > 0
-    }
-
-    /// Whether a file failed as it was opened or read.
-    pub fn has_failed(&self) -> bool
-        ensures { result ≡ has_failed self.now }
-    {
-        self.lost() > 0
     }
 
     /// Whether the disk explains the dump better than another: its good sectors have more bytes; or as many, and fewer
@@ -99,16 +92,6 @@ impl Finding {
     {
         match &self.totals {
             Some(totals) => totals.whole,
-            None => 0,
-        }
-    }
-
-    /// How many files failed.
-    fn lost(&self) -> u32
-        ensures { result ≡ lost_in self.now.totals }
-    {
-        match &self.totals {
-            Some(totals) => totals.lost,
             None => 0,
         }
     }

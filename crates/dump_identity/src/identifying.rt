@@ -1,41 +1,43 @@
 //! Which disk a dump is of.
 
-ghost use Rattle.std.specs.Prelude.{◌≡◌, is_err, IfOk, OnErr};
+ghost use Rattle.std.specs.Prelude.{◌≡◌, ◌⊎◌, ℕ, List, Option, All, length, is_err, IfOk, OnErr};
+ghost use Rattle.std.specs.List.{list_any};
 ghost use Rattle.flux_base.specs.Blames.{CountsBy, no_counts, three_counts};
 ghost use Rattle.flux_base.specs.Counts.{Counts};
 ghost use Rattle.flux_base.specs.Moments.{Puts};
 ghost use Rattle.flux_base.specs.World.{sink_at, sink_counts};
 ghost use Rattle.flux_engine.specs.Blamed.{sink_blame};
-ghost use Rattle.flux_engine.specs.Room.{empty_book, fresh};
+ghost use Rattle.flux_engine.specs.Plans.{Seen, is_failed};
+ghost use Rattle.track_shelf.specs.Files.{File};
 ghost use Rattle.dump_reading.specs.Files.{shelf_at};
-ghost use Rattle.dump_identity.specs.Findings.{ComesTo};
 ghost use Rattle.dump_identity.specs.Lines.{line_of};
-ghost use Rattle.dump_identity.specs.Outcomes.{SaysOfIdentity, WroteIntoLine};
-ghost use Rattle.dump_identity.specs.inside.Outcomes.{CutLine, FoundOne, HasTried};
+ghost use Rattle.dump_identity.specs.Outcomes.{SaysOfIdentity};
+ghost use Rattle.dump_identity.specs.inside.Outcomes.{AreKnown, CutBest, CutLine, FindsOne, HaveSaid, HaveTold};
 
 use crate::candidate::Candidate;
 use crate::finding::Finding;
 use crate::identity::Identity;
 use crate::lines::{best_line, finding_line};
-use crate::room::{IdentityRoom, Trial};
-use crate::tried::Tried;
-use dump_reading::{DumpTotals, Dumps, Looks, NoFiles, read_dumps_by};
-use flux_base::{CountingSink, Failed, Sink, Word};
-use flux_engine::{Clocks, DiskRoom, Stopped};
-use sector_report::write_line;
-use std::slice::from_ref;
+use crate::reading::{find_files, read_files};
+use crate::room::IdentityRoom;
+use crate::tried::better_of;
+use dump_reading::NoFiles;
+use dump_tallies::DiskTally;
+use flux_base::{Failed, Sink, Word};
+use flux_engine::Stopped;
+use sector_report::{Passed, write_line};
 use track_shelf::Shelf;
 
-/// Says which disk a dump is of. It is read as a disk of each format that has a name, in the order of their table,
-/// with one step for each cylinder, and for those of up to 42 cylinders then with two: as `read_dumps` reads it, by
-/// the clock that follows the drive alone. The files beside the disk's tracks are looked at where a sector is good.
-/// Each disk that has a good sector gets a line as soon as it was read, which also tells how many files failed, and
-/// the last line names the best: the one with most bytes in good sectors, of those the one with fewest other names that
-/// have whole data, of those the one with fewest sectors, and of those the first. A file that fails is passed over, each
-/// time. No answer is for want of memory.
+/// Says which disk a dump is of: one of the formats that have a name, with one step for each cylinder, and for those
+/// of up to 42 cylinders with two. Each file that the dump may have is read once, as a track of each of these disks. What
+/// a disk comes to is what reading the dump as it does, by the clock that follows the drive alone; the files beside its
+/// tracks are among it where a sector is good. Each disk that has a good sector gets a line, in the order of the formats'
+/// table, and the last line names the best: the one with most bytes in good sectors, of those the one with fewest other
+/// names that have whole data, of those the one with fewest sectors, and of those the first. A file that fails is passed
+/// over. No answer is for want of memory.
 ///
-/// A dump that has no file of any track is refused, and nothing is written. After a fault of the sink nothing more is
-/// read or written, and the lines before are written whole. `ImageFault` is that of the lines. No notes are written,
+/// A dump that has no file of any track is refused, and nothing is read or written. After a fault of the sink nothing
+/// more is written, and the lines before are written whole. `ImageFault` is that of the lines. No notes are written,
 /// so `NotesFault` does not come.
 pub fn identify<H: Shelf, W: Sink>(
     dump: &Word,
@@ -51,110 +53,118 @@ pub fn identify<H: Shelf, W: Sink>(
         (three_counts no_counts (sink_counts W.Sink lines.old) no_counts)
         (three_counts no_counts (sink_counts W.Sink lines.new) no_counts) }
 {
-    let tried = match try_all(dump, room, shelf, lines) {
-        Ok(tried) => tried,
-        Err(Failed) => return Err(Stopped::ImageFault),
-    };
-    if !tried.has_files {
+    let mut room = room;
+    if !find_files(dump, &room.disks, &mut room.held, shelf) {
         return Err(Stopped::Refused(NoFiles { dump: 0 }));
     }
-    match write_line(lines, &best_line(&tried.best)) {
-        Ok(()) => Ok(Identity {
-            best: tried.best,
-            failed: tried.failed,
+    read_files(
+        dump,
+        &mut room.stream,
+        &mut room.passed,
+        &mut room.disks,
+        shelf,
+    );
+    match tell_best(&room.passed, &room.disks, &room.held, lines) {
+        Ok(best) => Ok(Identity {
+            best,
+            failed: have_failed(&room.passed),
         }),
         Err(Failed) => Err(Stopped::ImageFault),
     }
 }
 
-/// Tries all candidates, and writes the lines of those that have a good sector.
-fn try_all<H: Shelf, W: Sink>(
-    dump: &Word,
-    room: IdentityRoom,
-    shelf: &mut H,
-    lines: &mut W,
-) -> Result<Tried, Failed>
-    ensures ok { IfOk result
-        (HasTried dump.now (shelf_at H.Source H.Shelf.own shelf.old) (shelf_at H.Source H.Shelf.own shelf.new)
-        (W.written lines.old) (W.written lines.new)) }
-    ensures err { OnErr result
-        (WroteIntoLine dump.now (shelf_at H.Source H.Shelf.own shelf.old) (shelf_at H.Source H.Shelf.own shelf.new)
-        (W.written lines.old) (W.written lines.new)) }
-    ensures counts { Counts (is_err result) (sink_counts W.Sink lines.old) (sink_counts W.Sink lines.new) }
+/// Whether one of these files failed.
+fn have_failed(passed: &[Option<Passed>]) -> bool
+    ensures { result ≡ list_any is_failed passed.now }
 {
-    let mut disk = room.disk;
-    let mut tried = Tried::none();
-    for trial in room.trials {
-        match try_one(trial, dump, &mut disk, shelf, lines) {
-            Ok(finding) => tried.note(finding),
-            Err(failed) => return Err(failed),
-        }
-    }
-    Ok(tried)
+    passed.iter().any(|why| matches!(why, Some(Passed::Failed)))
 }
 
-/// Tries a candidate, and writes its line where it has a good sector.
-fn try_one<H: Shelf, W: Sink>(
-    trial: Trial,
-    dump: &Word,
-    disk: &mut DiskRoom,
-    shelf: &mut H,
+/// Writes the lines of all disks that have a good sector, where all files came, and behind them that of the best, and
+/// gives it.
+fn tell_best<W: Sink>(
+    passed: &[Option<Passed>],
+    disks: &[DiskTally],
+    held: &[bool],
     lines: &mut W,
-) -> Result<Finding, Failed>
-    requires { trial.book ≡ empty_book trial.candidate.format }
+) -> Result<Option<Finding>, Failed>
+    requires passed { length passed.now ≡ 200 }
+    requires all { All (λ disk. length disk.tallies ≡ 200) disks.now }
+    requires held { length held.now ≡ length disks.now }
     ensures ok { IfOk result
-        (FoundOne dump.now (shelf_at H.Source H.Shelf.own shelf.old) (shelf_at H.Source H.Shelf.own shelf.new)
-        (W.written lines.old) (W.written lines.new) trial.candidate) }
+        (λ best.
+        (dump : List ℕ) (told : Option (List File)) (came : List Seen)
+        → AreKnown dump told came passed.now disks.now held.now
+        → HaveSaid dump told came disks.now held.now (W.written lines.old) (W.written lines.new) best) }
     ensures err { OnErr result
-        (CutLine dump.now (shelf_at H.Source H.Shelf.own shelf.old) (shelf_at H.Source H.Shelf.own shelf.new)
-        (W.written lines.old) (W.written lines.new) trial.candidate) }
+        ((dump : List ℕ) (told : Option (List File)) (came : List Seen)
+        → AreKnown dump told came passed.now disks.now held.now
+        → CutLine dump told came disks.now (W.written lines.old) (W.written lines.new)
+        ⊎ CutBest dump told came disks.now (W.written lines.old) (W.written lines.new)) }
     ensures counts { Counts (is_err result) (sink_counts W.Sink lines.old) (sink_counts W.Sink lines.new) }
 {
-    let candidate = trial.candidate;
-    disk.begin_format(candidate.format, trial.book);
-    let finding = Finding {
-        candidate,
-        totals: read_as(candidate, dump, disk, shelf),
+    let best = match tell_all(passed, disks, held, lines) {
+        Ok(best) => best,
+        Err(failed) => return Err(failed),
     };
-    match write_finding(&finding, lines) {
-        Ok(()) => Ok(finding),
+    match write_line(lines, &best_line(&best)) {
+        Ok(()) => Ok(best),
         Err(failed) => Err(failed),
     }
 }
 
-/// Reads a dump as a candidate's disk, by the clock that follows the drive alone, and counts what it comes to. None
-/// where the dump has the file of none of its tracks.
-fn read_as<H: Shelf>(
-    candidate: Candidate,
-    dump: &Word,
-    disk: &mut DiskRoom,
-    shelf: &mut H,
-) -> Option<DumpTotals>
-    requires { disk.old ≡ fresh candidate.format }
-    ensures { ComesTo dump.now (shelf_at H.Source H.Shelf.own shelf.old) (shelf_at H.Source H.Shelf.own shelf.new)
-        candidate result }
+/// Writes the lines of all disks that have a good sector, where all files came, and gives the best.
+fn tell_all<W: Sink>(
+    passed: &[Option<Passed>],
+    disks: &[DiskTally],
+    held: &[bool],
+    lines: &mut W,
+) -> Result<Option<Finding>, Failed>
+    requires passed { length passed.now ≡ 200 }
+    requires all { All (λ disk. length disk.tallies ≡ 200) disks.now }
+    requires held { length held.now ≡ length disks.now }
+    ensures ok { IfOk result
+        (λ best.
+        (dump : List ℕ) (told : Option (List File)) (came : List Seen)
+        → AreKnown dump told came passed.now disks.now held.now
+        → HaveTold dump told came disks.now held.now (W.written lines.old) (W.written lines.new) best) }
+    ensures err { OnErr result
+        ((dump : List ℕ) (told : Option (List File)) (came : List Seen)
+        → AreKnown dump told came passed.now disks.now held.now
+        → CutLine dump told came disks.now (W.written lines.old) (W.written lines.new)) }
+    ensures counts { Counts (is_err result) (sink_counts W.Sink lines.old) (sink_counts W.Sink lines.new) }
 {
-    let dumps = Dumps {
-        names: from_ref(dump),
-        stepping: candidate.stepping,
+    let mut best = None;
+    for number in 0..disks.len() {
+        let finding = finding_of(&disks[number], held[number], passed);
+        match write_finding(&finding, lines) {
+            Ok(()) => best = better_of(best, finding),
+            Err(failed) => return Err(failed),
+        }
+    }
+    Ok(best)
+}
+
+/// What a disk comes to, where all files came and the dump has one of its tracks or none.
+fn finding_of(disk: &DiskTally, held: bool, passed: &[Option<Passed>]) -> Finding
+    requires passed { length passed.now ≡ 200 }
+    requires all { length disk.now.tallies ≡ 200 }
+    ensures { FindsOne passed.now disk.now held result }
+{
+    let candidate = Candidate {
+        stepping: disk.stepping(),
+        format: disk.format(),
     };
-    let mut image = CountingSink::new();
-    let mut notes = CountingSink::new();
-    match read_dumps_by(
-        Clocks::FollowingAlone,
-        Looks::WhereGood,
-        &dumps,
-        disk,
-        shelf,
-        &mut image,
-        &mut notes,
-    ) {
-        Ok(totals) => Some(totals),
-        Err(Stopped::Refused(_)) => None,
-        // A file that fails ends nothing, and the sinks do not fail.
-        Err(Stopped::ReadFault) => unreachable!(),
-        Err(Stopped::ImageFault) => unreachable!(),
-        Err(Stopped::NotesFault) => unreachable!(),
+    if held {
+        Finding {
+            candidate,
+            totals: Some(disk.totals(passed)),
+        }
+    } else {
+        Finding {
+            candidate,
+            totals: None,
+        }
     }
 }
 

@@ -5,6 +5,6 @@ use crate::finding::Finding;
 pub struct Identity {
     /// The disk that explains it best, if one has a good sector.
     pub best: Option<Finding>,
-    /// Whether one of its files failed as it was opened or read for one of these disks.
+    /// Whether one of its files failed as it was opened or read.
     pub failed: bool,
 }

@@ -1,5 +1,5 @@
-//! Which disk a dump is of: it is read as a disk of each format that has a name in turn,
-//! and what each comes to is said.
+//! Which disk a dump is of: each of its files is read once, as a track of a disk of each format that has a name,
+//! and what each disk comes to is said.
 #![tactic(auto)]
 
 mod candidate;
@@ -8,6 +8,7 @@ mod identifying;
 mod identity;
 mod laws;
 mod lines;
+mod reading;
 mod room;
 mod tried;
 

@@ -1,26 +1,20 @@
 -- What `identify` did by what was said of the dump.
-use Rattle.std.specs.Prelude.{if◌then◌else◌, ◌||◌}
-use Rattle.std.proofs.Common.{◌≡◌, ◌+◌, ℕ, Bool, true, false, List, [], ◌∷◌, ◌++◌, Option, Some, None, Result, Ok, Err, inl, inr, refl, sym, ap, ◌∙◌, subst, arith}
-use Rattle.std.specs.List.{list_any}
-use Rattle.dump_identity.specs.Findings.{AreFindings, ComesTo, has_failed, identity_of, is_complete}
+use Rattle.std.specs.Prelude.{if◌then◌else◌}
+use Rattle.std.proofs.Common.{◌≡◌, ℕ, Bool, true, false, List, [], ◌∷◌, Option, Some, None, Result, Ok, Err, inl, inr, refl, sym, ap, ◌∙◌, subst}
+use Rattle.dump_identity.specs.Findings.{identity_of, is_complete}
 use Rattle.dump_identity.specs.Laws.{IdentitiesAreOne, NoFilesAreNoIdentity}
-use Rattle.dump_identity.specs.Outcomes.{SaysOfIdentity}
-use Rattle.dump_identity.specs.declared.candidate.Candidate.{Candidate}
+use Rattle.dump_identity.specs.Outcomes.{Identified, SaysOfIdentity}
 use Rattle.dump_identity.specs.declared.finding.Finding.{Finding}
 use Rattle.dump_identity.specs.declared.identity.Identity.{Identity}
-use Rattle.dump_reading.specs.Files.{CountsMany, ShelfNow}
-use Rattle.dump_reading.specs.Outcomes.{DumpsRead}
+use Rattle.dump_reading.specs.Files.{ShelfNow}
 use Rattle.dump_reading.specs.declared.fault.NoFiles.{NoFiles}
 use Rattle.flux_engine.specs.declared.fault.Stopped.{Stopped}
 use Rattle.flux_engine.specs.declared.fault.Stopped.TheVariants.{ReadFault, ImageFault, NotesFault, Refused}
-use Rattle.dump_reading.specs.declared.totals.DumpTotals.{DumpTotals}
-use Rattle.dump_reading.specs.lemmas.Coming.{failed-both, none-failed}
 use Rattle.flux_base.specs.declared.status.Status.TheVariants.{AllGood, NotAllGood, ShelfFault}
 use Rattle.flux_engine.specs.LoopProgress.{lost_count}
 use Rattle.track_shelf.specs.Files.{File}
-use Rattle.track_shelf.specs.Told.{with_failed}
 use Rattle.flux_cli.proofs.EndingLaws.{IsDone}
-use Rattle.flux_cli.proofs.Often.{FailsBy, fails-by, many-none, many-then, often-either, often-if}
+use Rattle.flux_cli.proofs.Often.{FailsBy, fails-by, often-either, often-if}
 use Rattle.flux_cli.proofs.ReadRun.{Failed, still-failed}
 use Rattle.flux_cli.proofs.ShelfEnded.{Answers, kept-nothing, one-line, same-kept, same-nothing}
 use Rattle.flux_cli.specs.Blamed.{FailsOften}
@@ -48,70 +42,27 @@ best_often (Some best) often none = often-either (is_complete best) often none
 identity_often : (identity : Identity) (often : ℕ) → FailsBy identity.failed often → FailsOften (identity_status identity) often
 identity_often identity often fails = often-if identity.failed (best_status identity.best) often fails (best_often identity.best often)
 
--- what the shelf did as a dump was read as some disks: so many files failed
-record Lost (failed : Bool) (start now : ShelfNow) : Type 0 where
-  pub often : ℕ
-  pub fails : FailsBy failed often
-  pub many : CountsMany often start.counts now.counts
-  pub paths : List (List ℕ)
-  pub told : now.told ≡ with_failed paths start.told
-
-none_lost : (start now : ShelfNow) → now ≡ start → Lost false start now
-none_lost start now still =
-    subst (λ (s : ShelfNow). Lost false start s) (sym still)
-    (record { often = 0; fails = refl; many = many-none start.counts; paths = []; told = none-failed start.told })
-
-both_fail : (a b : Bool) (often more : ℕ) → FailsBy a often → FailsBy b more → FailsBy (a || b) (more + often)
-both_fail true b often more some others = omega (arith, some)
-both_fail false true often more none some = omega (arith, some)
-both_fail false false often more none others = omega (arith, none, others)
-
-both_lost : (a b : Bool) (start mid now : ShelfNow) → Lost a start mid → Lost b mid now → Lost (a || b) start now
-both_lost a b start mid now p q = record {
-  often = q.often + p.often;
-  fails = both_fail a b p.often q.often p.fails q.fails;
-  many = many-then p.often q.often start.counts mid.counts now.counts p.many q.many;
-  paths = p.paths ++ q.paths;
-  told = q.told ∙ ap (with_failed q.paths) p.told ∙ failed-both p.paths q.paths start.told;
-}
-
 module _ (dump : List ℕ) where
-  one_lost : (start now : ShelfNow) (candidate : Candidate) (totals : Option DumpTotals) → ComesTo dump start now candidate totals
-      → Lost (has_failed (record { candidate = candidate; totals = totals })) start now
-  one_lost start now candidate None came = none_lost start now came.1
-  one_lost start now candidate (Some totals) came =
-      let same : totals.lost ≡ lost_count came.is.streams + lost_count came.is.beside.came = ap (λ (t : DumpTotals). t.lost) (came.totals_are ∙ ap (λ (d : DumpsRead). d.totals) came.is.is) in
-      record {
-        often = totals.lost;
-        fails = fails-by totals.lost;
-        many = subst (λ (n : ℕ). CountsMany n start.counts now.counts) (sym same) came.shelf.counts;
-        paths = _;
-        told = came.shelf.told;
-      }
-
-  all_lost : (findings : List Finding) (start now : ShelfNow) → AreFindings dump start now findings → Lost (list_any has_failed findings) start now
-  all_lost [] start now are = none_lost start now are
-  all_lost (f ∷ findings) start now (next, comes, are) =
-      both_lost (has_failed f) (list_any has_failed findings) start next now (one_lost start next f.candidate f.totals comes) (all_lost findings next now are)
-
   pub identity-failed : (start now : ShelfNow) (lines lines' : Option (List ℕ)) (answer : Result Identity (Stopped NoFiles)) → SaysOfIdentity dump start now lines lines' answer
       → Failed identity_status start now answer
   identity-failed start now lines lines' (Ok identity) says =
-      let lost : Lost (list_any has_failed says.is.findings) start now = all_lost says.is.findings start now says.is.all.are in
-      let same : identity ≡ identity_of says.is.findings = says.identity_is ∙ ap (λ o. o.identity) says.is.is in
+      let files = says.is.files in
+      let often : ℕ = lost_count files.came in
+      let is : Identity = identity_of files.came says.is.findings in
+      let same : identity ≡ is = says.identity_is ∙ ap (λ (o : Identified). o.identity) says.is.is in
       record {
-        often = lost.often;
-        fails = subst (λ (i : Identity). FailsOften (identity_status i) lost.often) (sym same) (identity_often (identity_of says.is.findings) lost.often lost.fails);
-        many = lost.many;
-        paths = lost.paths;
-        told = lost.told;
+        often = often;
+        fails = subst (λ (i : Identity). FailsOften (identity_status i) often) (sym same) (identity_often is often (fails-by often));
+        many = files.have.counts;
+        paths = _;
+        told = files.have.told;
       }
   identity-failed start now lines lines' (Err (Refused empty)) says = still-failed identity_status start now empty says.2
   identity-failed start now lines lines' (Err ReadFault) never = absurd never
   identity-failed start now lines lines' (Err ImageFault) says =
       elim says [
-        | inl line ↦ (let lost = all_lost _ start now line.first.are in record { often = lost.often; fails = tt; many = lost.many; paths = lost.paths; told = lost.told })
-        | inr best ↦ (let lost = all_lost _ start now best.all.are in record { often = lost.often; fails = tt; many = lost.many; paths = lost.paths; told = lost.told })
+        | inl line ↦ (let files = line.files in record { often = lost_count files.came; fails = tt; many = files.have.counts; paths = _; told = files.have.told })
+        | inr best ↦ (let files = best.files in record { often = lost_count files.came; fails = tt; many = files.have.counts; paths = _; told = files.have.told })
       ]
   identity-failed start now lines lines' (Err NotesFault) says = absurd says
 
@@ -147,7 +98,7 @@ module _ (one : IdentitiesAreOne) (apart : NoFilesAreNoIdentity) (dump : List �
       is ∙ ap empty_outcome (one-line (dump ∷ []) files 0 0 line other refl
       (subst (λ (t : Option (List File)). TellsEmpty t (dump ∷ []) 0 line) mine p.tells)
       (subst (λ (t : Option (List File)). TellsEmpty t (dump ∷ []) 0 other) others q.tells)) ∙ sym is'
-  one_outcome_of_dump a b (inl (line, p, is)) (inr (i, said, is')) alike = absurd (apart dump files start now start' now' mine others i p.is said)
-  one_outcome_of_dump a b (inr (i, said, is)) (inl (line, q, is')) alike = absurd (apart dump files start' now' start now others mine i q.is said)
+  one_outcome_of_dump a b (inl (line, p, is)) (inr (i, said, is')) alike = absurd (apart dump files start start' now' mine others i p.is said)
+  one_outcome_of_dump a b (inr (i, said, is)) (inl (line, q, is')) alike = absurd (apart dump files start' start now others mine i q.is said)
   one_outcome_of_dump a b (inr (i, said, is)) (inr (j, other, is')) alike =
       is ∙ ap identity_outcome (one dump files start now start' now' mine others i j said other alike) ∙ sym is'

@@ -1,13 +1,12 @@
--- What `identify` does: the files of a dump are read on the shelf as
--- those of each disk, one by one.
+-- What `identify` does: each file of a dump is read once on the shelf, as a track of each disk.
 use Rattle.std.proofs.Common.{inr}
 use Rattle.std.specs.Prelude.{◌≡◌, ◌⊎◌, ℕ, List, [], if◌then◌else◌, Option, Some, None}
 use Rattle.dump_identity.specs.Findings.{is_complete}
-use Rattle.dump_identity.specs.Laws.{FailedAlikeInAll}
 use Rattle.dump_identity.specs.Outcomes.{HasNoFiles, Identified, IsIdentified, WroteIntoBest}
 use Rattle.dump_identity.specs.Outcomes.{WroteIntoLine}
 use Rattle.dump_identity.specs.declared.finding.Finding.{Finding}
 use Rattle.dump_identity.specs.declared.identity.Identity.{Identity}
+use Rattle.dump_reading.specs.DumpStreams.{FailedAlike}
 use Rattle.dump_reading.specs.Files.{ShelfNow}
 use Rattle.flux_base.specs.declared.status.Status.{Status}
 use Rattle.flux_base.specs.declared.status.Status.TheVariants.{AllGood, NotAllGood, ImageFault}
@@ -29,7 +28,7 @@ identity_outcome o = record { status = identity_status o.identity; image = o.lin
 
 -- the dump has no file of any disk's tracks, and the line on it
 abbrev pub EmptyDump : (dump : List ℕ) → (start now : ShelfNow) → (line : List ℕ) → Type 0
-EmptyDump dump start now line = OneEmpty (HasNoFiles dump start now) dump start now line
+EmptyDump dump start now line = OneEmpty (HasNoFiles dump start.told.files) dump start now line
 
 -- what the dump comes to, by the files that are told, and what the shelf did
 abbrev pub IsOutcomeOfDump : (dump : List ℕ) → (start now : ShelfNow) → Outcome → Type 0
@@ -41,7 +40,7 @@ IsOutcomeOfDump dump start now o =
 abbrev pub FailedAsIdentified : (dump : List ℕ) (start now start' now' : ShelfNow) (a b : Outcome)
     → IsOutcomeOfDump dump start now a → IsOutcomeOfDump dump start' now' b → Type 0
 FailedAsIdentified dump start now start' now' a b (inr (i, is, same)) (inr (j, is', same')) =
-    FailedAlikeInAll dump start now start' now' is.findings is'.findings is.all.are is'.all.are
+    FailedAlike is.files.came is'.files.came
 FailedAsIdentified dump start now start' now' a b _ _ = Unit {0}
 
 -- what was written where a fault of a sink cut the work, by the status, which says whose it is

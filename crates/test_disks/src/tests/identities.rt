@@ -107,14 +107,14 @@ const NONE: Identity = Identity {
     failed: false,
 };
 
-/// The same where a file failed for one of the disks.
+/// The same where a file failed.
 const NONE_FAILED: Identity = Identity {
     best: None,
     failed: true,
 };
 
 /// The name of the dump, the calls of the shelf that fail, the bytes that the sink takes, what is answered, and what is
-/// written. Each disk opens the file anew.
+/// written. The file is opened once, for all disks.
 const ENDS: [(
     &str,
     &[u64],

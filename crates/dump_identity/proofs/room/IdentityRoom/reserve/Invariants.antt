@@ -6,4 +6,4 @@ use Rattle.dump_identity.specs.Trials.{trial_of}
 use Rattle.dump_identity.proofs.room.IdentityRoom.reserve.Given as goal
 
 abbrev pub invariant-loop-format : goal.invariant-loop-format
-invariant-loop-format l = l.trials.items ≡ map trial_of (flat_map candidates_of (take l.format-index formats))
+invariant-loop-format l = l.disks.items ≡ map trial_of (flat_map candidates_of (take l.format-index formats))
