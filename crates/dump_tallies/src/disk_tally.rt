@@ -6,9 +6,10 @@ ghost use Rattle.flux_engine.specs.Tallies.{IsFewTally};
 ghost use Rattle.dump_tallies.specs.Tallies.{IsFileTally, IsTallyAs};
 
 use crate::files::{MOST_FILES, disk_track};
+use crate::tally_room::TallyRoom;
 use dump_reading::{near_number, number_of};
 use flux_base::{Memory, TrackId};
-use flux_engine::{Gathered, SharedStream, TrackTally, format_gathered};
+use flux_engine::{Gathered, SharedStream, TrackTally, format_gathered, sectors_of};
 use sector_images::{Format, nominal, ring_cells, track_id, tracks_keep_bounds};
 use sector_report::Totals;
 use std::alloc::Global;
@@ -63,6 +64,26 @@ impl DiskTally {
             gathered,
             tallies,
         })
+    }
+
+    /// A disk for which memory was taken before it was known. No file came.
+    pub fn begin(room: TallyRoom, stepping: Stepping, format: Format) -> DiskTally
+        requires { reaches_all stepping format ≡ true }
+        ensures { result ≡ no_tallies stepping format }
+    {
+        tracks_keep_bounds();
+        let mut gathered = room.gathered;
+        // No track has more sectors than the first.
+        let sectors = sectors_of(format, track_id(format, 0));
+        gathered
+            .book
+            .begin(sectors.first, sectors.count, sectors.size);
+        DiskTally {
+            stepping,
+            format,
+            gathered,
+            tallies: room.tallies,
+        }
     }
 
     /// How its cylinders lie in files.

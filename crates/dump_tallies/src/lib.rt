@@ -5,8 +5,10 @@
 mod disk_tally;
 mod files;
 mod noting;
+mod tally_room;
 mod totals;
 
 pub use disk_tally::DiskTally;
 pub use files::{MOST_FILES, file_track};
 pub use noting::note_file;
+pub use tally_room::TallyRoom;
