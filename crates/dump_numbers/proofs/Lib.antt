@@ -1,0 +1,7 @@
+pub mod OneSector
+pub mod Walks
+pub mod Turns
+pub mod Noting
+pub mod ByRates
+pub mod Reached
+pub mod OneList

@@ -1,0 +1,150 @@
+-- The files of a dump decide which disks they tell.
+use Rattle.std.proofs.Common.{◌≡◌, ◌<◌, ◌+◌, ◌*◌, ◌/◌, ◌%◌, ◌∙◌, ◌&&◌, ℕ, zero, suc, Bool, true, false, List, [], ◌∷◌, ◌++◌, Option, Some, None, get_or, length, refl, sym, ap, subst, inl, inr, arith}
+use Rattle.std.specs.Prelude.{flat_map, nat_lt}
+use Rattle.std.proofs.lemmas.Bool.{lt-ltb}
+use Rattle.std.proofs.lemmas.List.{ext_get_or}
+use Rattle.flux_base.specs.declared.track.TrackId.{TrackId}
+use Rattle.flux_engine.specs.LoopProgress.{seen_at}
+use Rattle.flux_engine.specs.Plans.{Seen, is_failed}
+use Rattle.ibm_disks.specs.Numbers.{code_of}
+use Rattle.ibm_disks.specs.declared.rate.Rate.{Rate}
+use Rattle.ibm_disks.specs.declared.sector_size.SectorSize.{SectorSize}
+use Rattle.ibm_disks.specs.declared.sector_size.SectorSize.TheVariants.{Bytes128, Bytes256, Bytes512, Bytes1024}
+use Rattle.kryo_stream.specs.Stream.{first_fault}
+use Rattle.kryo_stream.specs.declared.fault.StreamFault.{StreamFault}
+use Rattle.sector_report.specs.declared.dump_lines.Passed.TheVariants.{Failed}
+use Rattle.track_shelf.specs.Files.{File, file_at}
+use Rattle.track_shelf.specs.declared.stepping.Stepping.TheVariants.{Single}
+use Rattle.dump_reading.specs.DumpStreams.{FailedAlike, HaveComeOf, IsOrFailed, passed_over, path_in, seen_of, seen_unless}
+use Rattle.dump_reading.specs.Files.{ShelfNow}
+use Rattle.told_disks.specs.Disks.{AreToldDisks}
+use Rattle.told_disks.specs.Laws.{ToldDisksAreOne}
+use Rattle.told_disks.specs.Names.{has}
+use Rattle.told_disks.specs.declared.disks.NumberedDisk.{NumberedDisk}
+use Rattle.dump_numbers.specs.Found.{AreByNumbers, FindsDisks, files_of}
+use Rattle.dump_numbers.specs.Laws.{NumbersAreOne}
+use Rattle.dump_numbers.specs.Rates.{rates}
+use Rattle.dump_numbers.specs.Sets.{AreSetsOf, IsSetOf, double_file, track_number}
+
+-- the size of a code
+size_of_code : ℕ → SectorSize
+size_of_code zero = Bytes128
+size_of_code (suc zero) = Bytes256
+size_of_code (suc (suc zero)) = Bytes512
+size_of_code (suc (suc (suc n))) = Bytes1024
+
+code_is : (n : ℕ) → n < 4 → code_of (size_of_code n) ≡ n
+unfolding size_of_code
+code_is zero low = refl
+code_is (suc zero) low = refl
+code_is (suc (suc zero)) low = refl
+code_is (suc (suc (suc zero))) low = refl
+code_is (suc (suc (suc (suc n)))) low = absurd (omega (arith, low))
+
+-- a set has a number where its bit is set
+bit_is : (set : List Bool) (size : SectorSize) (number : ℕ) → number < 256 → has set size number ≡ get_or set (256 * code_of size + number) false
+unfolding has
+bit_is set size number low = ap (λ (b : Bool). b && get_or set (256 * code_of size + number) false) (lt-ltb number 256 low)
+
+same_bool : (a b : Bool) → (a ≡ true → b ≡ true) → (b ≡ true → a ≡ true) → a ≡ b
+same_bool true true there back = refl
+same_bool true false there back = sym (there refl)
+same_bool false true there back = back refl
+same_bool false false there back = refl
+
+-- a file has one set
+one_set : (rate : Rate) (here : Seen) (own : TrackId) (a b : List Bool) → IsSetOf rate here own a → IsSetOf rate here own b → a ≡ b
+one_set rate here own a b x y = ext_get_or false a b (x.full ∙ sym y.full) each
+  where
+    each : (i : ℕ) → i < length a → get_or a i false ≡ get_or b i false
+    each i low =
+        let full = x.full in
+        let size : SectorSize = size_of_code (i / 256) in
+        let number : ℕ = i % 256 in
+        let few : number < 256 = omega arith in
+        let at : 256 * code_of size + number ≡ i = ap (λ (c : ℕ). 256 * c + number) (code_is (i / 256) (omega (arith, low, full))) ∙ omega arith in
+        ap (λ (k : ℕ). get_or a k false) (sym at) ∙ sym (bit_is a size number few)
+        ∙ same_bool (has a size number) (has b size number) (λ is. (y.has_own size number).1 ((x.has_own size number).0 is)) (λ is. (x.has_own size number).1 ((y.has_own size number).0 is))
+        ∙ bit_is b size number few ∙ ap (λ (k : ℕ). get_or b k false) at
+
+-- so a dump has one list of them by each step
+module _ (rate : Rate) (came : List Seen) (one two one' two' : List (List Bool)) (x : AreSetsOf rate came one two) (y : AreSetsOf rate came one' two') where
+  same_one : one ≡ one'
+  same_one =
+      let many = x.all_one in
+      ext_get_or [] one one' (x.all_one ∙ sym y.all_one)
+      (λ i low.
+      let few : i < 198 = omega (arith, low, many) in
+      one_set rate (seen_at came i) (track_number i) (get_or one i []) (get_or one' i []) (x.one_step i few) (y.one_step i few))
+
+  same_two : two ≡ two'
+  same_two =
+      let many = x.all_two in
+      ext_get_or [] two two' (x.all_two ∙ sym y.all_two)
+      (λ i low.
+      let few : i < 84 = omega (arith, low, many) in
+      one_set rate (seen_at came (double_file i)) (track_number i) (get_or two i []) (get_or two' i []) (x.two_steps i few) (y.two_steps i few))
+
+-- a list by two functions that agree
+flat_agree : {X Y : Type 0} (f g : X → List Y) → ((x : X) → f x ≡ g x) → (xs : List X) → flat_map f xs ≡ flat_map g xs
+flat_agree f g same [] = refl
+flat_agree f g same (x ∷ xs) = ap (λ (ys : List _). ys ++ flat_map f xs) (same x) ∙ ap (λ (ys : List _). g x ++ ys) (flat_agree f g same xs)
+
+-- and tells one list of disks
+one_told : ToldDisksAreOne → (came : List Seen) (a b : List NumberedDisk) → AreByNumbers came a → AreByNumbers came b → a ≡ b
+one_told told came a b x y = x.are ∙ flat_agree x.by_rate y.by_rate each rates ∙ sym y.are
+  where
+    each : (rate : Rate) → x.by_rate rate ≡ y.by_rate rate
+    each rate =
+        told rate (x.one rate) (x.two rate) (x.by_rate rate) (y.by_rate rate) (x.told rate)
+        (subst (λ (one : List (List Bool)). AreToldDisks rate one (x.two rate) (y.by_rate rate)) (sym (same_one rate came (x.one rate) (x.two rate) (y.one rate) (y.two rate) (x.sets rate) (y.sets rate)))
+        (subst (λ (two : List (List Bool)). AreToldDisks rate (y.one rate) two (y.by_rate rate)) (sym (same_two rate came (x.one rate) (x.two rate) (y.one rate) (y.two rate) (x.sets rate) (y.sets rate)))
+        (y.told rate)))
+
+-- what a file says is not that it failed
+not_failed : (file : Option File) → is_failed (seen_of file).passed ≡ false
+not_failed None = refl
+not_failed (Some file) = by (first_fault file.bytes)
+  where
+    by : (fault : Option (ℕ × StreamFault)) → is_failed (seen_unless file.bytes fault).passed ≡ false
+    by None = refl
+    by (Some fault) = refl
+
+-- so what came of a file is one thing, where it failed both times or neither
+settled : (came came' says : Seen) → is_failed says.passed ≡ false → IsOrFailed came says → IsOrFailed came' says → is_failed came.passed ≡ is_failed came'.passed → came ≡ came'
+settled came came' says not (inl same) (inl same') alike = same ∙ sym same'
+settled came came' says not (inr failed) (inr failed') alike = failed ∙ sym failed'
+settled came came' says not (inl same) (inr failed) alike =
+    absurd (no (sym not ∙ ap (λ (s : Seen). is_failed s.passed) (sym same) ∙ alike ∙ ap (λ (s : Seen). is_failed s.passed) failed))
+  where
+    no : false ≡ true → ⊥
+    no e = cc
+settled came came' says not (inr failed) (inl same) alike =
+    absurd (no (sym not ∙ ap (λ (s : Seen). is_failed s.passed) (sym same) ∙ sym alike ∙ ap (λ (s : Seen). is_failed s.passed) failed))
+  where
+    no : false ≡ true → ⊥
+    no e = cc
+
+abbrev no_seen : Seen
+no_seen = record { fault = None; passed = None; times = []; indexes = [] }
+
+-- the same came of the same files
+one_came : (dump : List ℕ) (files : List File) (start now start' now' : ShelfNow) (came came' : List Seen) → start.told.files ≡ Some files → start'.told.files ≡ Some files
+    → length came ≡ 198 → length came' ≡ 198 → HaveComeOf (files_of dump) start now came → HaveComeOf (files_of dump) start' now' came' → FailedAlike came came' → came ≡ came'
+one_came dump files start now start' now' came came' known known' all all' have have' alike = ext_get_or no_seen came came' (all ∙ sym all') each
+  where
+    each : (i : ℕ) → i < length came → seen_at came i ≡ seen_at came' i
+    each i low =
+        let at : i * 1 + 0 ≡ i = omega arith in
+        let file : Option File = file_at files (path_in Single (dump ∷ []) (track_number i) 0) in
+        let one : IsOrFailed (seen_at came i) (seen_of file) =
+        subst (λ (k : ℕ). IsOrFailed (seen_at came k) (seen_of file)) at (have.are files known i 0 (omega arith) (omega arith) (omega (arith, low))) in
+        let other : IsOrFailed (seen_at came' i) (seen_of file) =
+        subst (λ (k : ℕ). IsOrFailed (seen_at came' k) (seen_of file)) at (have'.are files known' i 0 (omega arith) (omega arith) (omega (arith, low, all, all'))) in
+        settled (seen_at came i) (seen_at came' i) (seen_of file) (not_failed file) one other (alike i low (omega (arith, low, all, all')))
+
+pub numbers_one : ToldDisksAreOne → NumbersAreOne
+numbers_one told dump files start now start' now' known known' a b one other alike =
+    one_told told one.came a.disks.items b.disks.items one.by_numbers
+    (subst (λ (came : List Seen). AreByNumbers came b.disks.items)
+    (sym (one_came dump files start now start' now' one.came other.came known known' one.all other.all one.have other.have alike)) other.by_numbers)

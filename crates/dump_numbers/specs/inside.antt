@@ -1,0 +1,3 @@
+-- What the crate's own functions say to one another: no public contract cites it.
+pub mod Walked
+pub mod Noted
