@@ -1,11 +1,9 @@
 -- Of which disks a dump has a file of a track.
 use Rattle.std.proofs.Common.{◌≡◌, ◌≤◌, ◌<◌, ◌⊎◌, ◌+◌, ◌++◌, ℕ, Bool, true, false, List, [], ◌∷◌, length, Option, None, Some, inl, inr, refl, sym, ap, subst, ◌∙◌, arith}
-use Rattle.std.specs.List.{list_any}
-use Rattle.std.specs.Prelude.{◌||◌, IfSome, get_or, is_none, not}
+use Rattle.std.specs.Prelude.{IfSome, get_or, is_none, not}
 use Rattle.std.specs.Option.{is_some}
 use Rattle.std.proofs.lemmas.Bool.{cases_lt}
 use Rattle.std.proofs.lemmas.List.{get_or_append_left, get_or_default, get_or_push}
-use Rattle.std.proofs.lemmas.List.Folds.{list_any-append}
 use Rattle.flux_engine.specs.declared.plan.Clocks.TheVariants.{Both}
 use Rattle.sector_images.specs.declared.format.Format.{Format}
 use Rattle.track_shelf.specs.Files.{File}
@@ -64,10 +62,3 @@ module _ (dump : List ℕ) (told : Option (List File)) (disks : List TalliedDisk
           subst (λ (j : ℕ). Holds j d (get_or more j b)) at
           (subst (λ (h : Bool). Holds n d h) (sym (get_or_push held here b n many))
           (subst (λ (x : TalliedDisk). IsHeld dump told x here) (is ∙ get_or_default disks n disk d low) there))
-
-pub any-next : (held : List Bool) (here any : Bool) → any ≡ list_any (λ h. h) held → (any || here) ≡ list_any (λ h. h) (held ++ here ∷ [])
-any-next held here any is = ap (λ (b : Bool). b || here) is ∙ ap (λ (b : Bool). list_any (λ h. h) held || b) (one here) ∙ sym (list_any-append (λ h. h) held (here ∷ []))
-  where
-    one : (b : Bool) → b ≡ list_any (λ h. h) (b ∷ [])
-    one true = refl
-    one false = refl

@@ -1,8 +1,6 @@
 -- The files, and which of them failed, decide what is said of a dump.
-use Rattle.std.proofs.Common.{◌≡◌, ◌≤◌, ◌<◌, ◌⊎◌, ◌+◌, inl, inr, ℕ, zero, suc, true, false, Bool, List, [], ◌∷◌, ◌++◌, length, Option, None, Some, arith, refl, sym, ap, subst, ◌∙◌}
-use Rattle.std.specs.Prelude.{All, ◌||◌, cond, nat_lt}
-use Rattle.std.specs.List.{list_any}
-use Rattle.std.specs.Option.{is_some}
+use Rattle.std.proofs.Common.{◌≡◌, ◌≤◌, ◌<◌, ◌⊎◌, ◌+◌, inl, inr, ℕ, zero, suc, true, false, Bool, List, [], ◌∷◌, ◌++◌, length, map, Option, None, Some, arith, refl, sym, ap, subst, ◌∙◌}
+use Rattle.std.specs.Prelude.{All, ◌||◌, cond, get_or, nat_lt, sum_by}
 use Rattle.std.proofs.lemmas.Bool.{cases_lt}
 use Rattle.std.proofs.lemmas.List.Elements.{All-head, All-tail}
 use Rattle.std.proofs.lemmas.List.Sums.{sum_by-cons}
@@ -13,12 +11,17 @@ use Rattle.dump_reading.specs.DumpStreams.{FailedAlike}
 use Rattle.dump_reading.specs.Files.{ShelfNow}
 use Rattle.dump_reading.specs.Outcomes.{DumpDisk, DumpsRead, IsDumpsRead}
 use Rattle.dump_reading.specs.declared.totals.DumpTotals.{DumpTotals}
+use Rattle.dump_tallies.specs.Files.{AreOfFiles, file_of}
+use Rattle.dump_tallies.specs.Numbers.{AreNumbersOf}
 use Rattle.law_read_dumps.specs.Said.{DumpsAreOne}
-use Rattle.dump_identity.specs.Candidates.{candidates}
-use Rattle.dump_identity.specs.Findings.{AreFindings, ComesTo, IsEmptyAs, best_of, disk_as, has_files, identity_of}
+use Rattle.dump_numbers.specs.Found.{FindsDisks}
+use Rattle.dump_numbers.specs.Laws.{NumbersAreOne}
+use Rattle.dump_numbers.specs.declared.finding.NumbersFound.{NumbersFound}
+use Rattle.dump_identity.specs.Candidates.{candidates_with}
+use Rattle.dump_identity.specs.Findings.{AreFindings, CameTo, ComesTo, best_of, disk_as}
 use Rattle.dump_identity.specs.Laws.{NoFilesAreNoIdentity}
 use Rattle.dump_identity.specs.Lines.{best_text, lines_of}
-use Rattle.dump_identity.specs.Outcomes.{Identified, IsIdentified, candidates_in}
+use Rattle.dump_identity.specs.Outcomes.{HasNoFiles, HasSomeFile, Identified, IsIdentified, candidates_by, candidates_in}
 use Rattle.dump_identity.specs.declared.candidate.Candidate.{Candidate}
 use Rattle.dump_identity.specs.declared.finding.Finding.{Finding}
 
@@ -111,33 +114,45 @@ module _ (dump : List ℕ) (files : List File) (one : DumpsAreOne) (told told' :
       ap (λ (h : Finding). h ∷ fs) (one-finding f g (head f g fs gs same) (All-head Mine f fs x) (All-head Others g gs y))
       ∙ ap (λ (hs : List Finding). g ∷ hs) (one-findings fs gs (tail f g fs gs same) (All-tail Mine f fs x) (All-tail Others g gs y))
 
-pub one-identity : (dump : List ℕ) (files : List File) → DumpsAreOne → (start now start' now' : ShelfNow) → start.told.files ≡ Some files → start'.told.files ≡ Some files
-    → (a b : Identified) (one : IsIdentified dump start now a) (other : IsIdentified dump start' now' b) → FailedAlike one.files.came other.files.came → a ≡ b
-one-identity dump files dumps start now start' now' first second a b one other alike =
-    one.is
-    ∙ ap (λ (fs : List Finding). let i : Identified = record { lines = lines_of fs ++ best_text (best_of fs); identity = identity_of one.files.came fs } in i)
-    (one-findings dump files dumps start.told.files start'.told.files first second one.files.came other.files.came many alike one.findings other.findings (one.all.all ∙ sym other.all.all) one.all.are other.all.are)
-    ∙ ap (λ (n : ℕ). let i : Identified = record { lines = lines_of other.findings ++ best_text (best_of other.findings); identity = record { best = best_of other.findings; failed = nat_lt 0 n } } in i)
-    (lost-alike one.files.came other.files.came many alike) ∙ sym other.is
+-- the files that tell disks by numbers tell the same ones
+module _ (dump : List ℕ) (files : List File) (start now start' now' : ShelfNow) (first : start.told.files ≡ Some files) (second : start'.told.files ≡ Some files) (numbers : NumbersAreOne) where
+  pub one-candidates : (a b : NumbersFound) (one : FindsDisks dump start now a) (other : FindsDisks dump start' now' b) → FailedAlike one.came other.came → candidates_by a ≡ candidates_by b
+  one-candidates a b one other alike = ap candidates_with (numbers dump files start now start' now' first second a b one other alike)
+
+  pub one-failed : (a b : NumbersFound) (one : FindsDisks dump start now a) (other : FindsDisks dump start' now' b) → FailedAlike one.came other.came → a.failed ≡ b.failed
+  one-failed a b one other alike = one.failed ∙ ap (nat_lt 0) (lost-alike one.came other.came (one.all ∙ sym other.all) alike) ∙ sym other.failed
+
+abbrev said : (failed : Bool) (lost : ℕ) → List Finding → Identified
+said failed lost findings = record { lines = lines_of findings ++ best_text (best_of findings); identity = record { best = best_of findings; failed = failed || nat_lt 0 lost } }
+
+pub one-identity : (dump : List ℕ) (files : List File) → DumpsAreOne → NumbersAreOne → (start now start' now' : ShelfNow) → start.told.files ≡ Some files → start'.told.files ≡ Some files
+    → (a b : Identified) (one : IsIdentified dump start now a) (other : IsIdentified dump start' now' b) → FailedAlike one.files.finds.came other.files.finds.came
+    → FailedAlike one.files.came other.files.came → a ≡ b
+one-identity dump files dumps numbers start now start' now' first second a b one other alike_found alike =
+    one.is ∙ ap (λ (fs : List Finding). said one.files.numbers.failed (lost_count one.files.came) fs) findings
+    ∙ ap (λ (n : ℕ). said one.files.numbers.failed n other.findings) (lost-alike one.files.came other.files.came many alike)
+    ∙ ap (λ (f : Bool). said f (lost_count other.files.came) other.findings) failed ∙ sym other.is
   where
     many : length one.files.came ≡ length other.files.came
     many = one.files.many ∙ sym other.files.many
 
--- a dump without files has no disk with files
-none-has : (dump : List ℕ) (files : List File) (told told' : Option (List File)) → told ≡ Some files → told' ≡ Some files → (came : List Seen) (findings : List Finding)
-    → All (IsEmptyAs dump told) (candidates_in findings) → AreFindings dump told' came findings → list_any has_files findings ≡ false
-none-has dump files told told' first second came [] none are = refl
-none-has dump files told told' first second came (f ∷ findings) none are =
-    ap (λ (b : Bool). b || list_any has_files findings)
-    (here f.totals (All-head (IsEmptyAs dump told) f.candidate (candidates_in findings) none) (All-head (λ (g : Finding). ComesTo dump told' came g.candidate g.totals) f findings are))
-    ∙ none-has dump files told told' first second came findings (All-tail (IsEmptyAs dump told) f.candidate (candidates_in findings) none)
-    (All-tail (λ (g : Finding). ComesTo dump told' came g.candidate g.totals) f findings are)
-  where
-    here : (totals : Option DumpTotals) → IsEmptyAs dump told f.candidate → ComesTo dump told' came f.candidate totals → is_some totals ≡ false
-    here None empty comes = refl
-    here (Some t) empty comes = absurd (false-true (sym (empty files first).0 ∙ comes.some files second 0 (omega arith)))
+    candidates_same : candidates_in one.findings ≡ candidates_in other.findings
+    candidates_same =
+        one.all.all ∙ one-candidates dump files start one.files.between start' other.files.between first second numbers one.files.numbers other.files.numbers one.files.finds other.files.finds alike_found
+        ∙ sym other.all.all
+
+    failed : one.files.numbers.failed ≡ other.files.numbers.failed
+    failed = one-failed dump files start one.files.between start' other.files.between first second numbers one.files.numbers other.files.numbers one.files.finds other.files.finds alike_found
+
+    findings : one.findings ≡ other.findings
+    findings = one-findings dump files dumps start.told.files start'.told.files first second one.files.came other.files.came many alike one.findings other.findings candidates_same one.all.are other.all.are
+
+-- a dump without files has no file
+none-some : (dump : List ℕ) (files : List File) (told told' : Option (List File)) → told ≡ Some files → told' ≡ Some files → HasNoFiles dump told → HasSomeFile dump told' → ⊥
+none-some dump files told told' first second none some =
+    let no : HasNoFiles dump (Some files) = subst (HasNoFiles dump) first none in
+    let yes : HasSomeFile dump (Some files) = subst (HasSomeFile dump) second some in
+    no yes.1.cylinder.0 yes.1.cylinder.1
 
 pub no-identity : NoFilesAreNoIdentity
-no-identity dump files start start' now' first second o none is =
-    false-true (sym (none-has dump files start.told.files start'.told.files first second is.files.came is.findings
-    (subst (All (IsEmptyAs dump start.told.files)) (sym is.all.all) none) is.all.are) ∙ is.some)
+no-identity dump files start start' now' first second o none is = none-some dump files start.told.files start'.told.files first second none is.some

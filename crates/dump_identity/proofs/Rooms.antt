@@ -1,5 +1,5 @@
 -- The candidates of the first formats, one after another.
-use Rattle.std.proofs.Common.{refl, true, ◌≡◌, ◌<◌, ◌≤◌, ◌+◌, ℕ, List, [], ◌∷◌, ◌++◌, length, get_or, map, take, ap, sym, subst, ◌∙◌, append-nil}
+use Rattle.std.proofs.Common.{refl, true, ◌≡◌, ◌<◌, ◌≤◌, ◌+◌, ℕ, List, [], ◌∷◌, ◌++◌, length, get_or, map, take, ap, sym, subst, ◌∙◌, append-nil, append_assoc}
 use Rattle.std.specs.List.{flat_map, list_all}
 use Rattle.flux_base.specs.declared.track.TrackId.{TrackId}
 use Rattle.sector_images.specs.Places.{tracks}
@@ -9,7 +9,8 @@ use Rattle.std.proofs.lemmas.List.{map-append, take_all, take_more}
 use Rattle.std.proofs.lemmas.List.Concat.{flat_map-append}
 use Rattle.sector_images.specs.Formats.{formats}
 use Rattle.sector_images.specs.declared.format.Format.{Format}
-use Rattle.dump_identity.specs.Candidates.{candidates, candidates_of}
+use Rattle.told_disks.specs.declared.disks.NumberedDisk.{NumberedDisk}
+use Rattle.dump_identity.specs.Candidates.{by_numbers, candidates, candidates_of}
 use Rattle.dump_identity.specs.Trials.{trial_of}
 use Rattle.dump_identity.specs.declared.candidate.Candidate.{Candidate}
 use Rattle.dump_tallies.specs.Tallies.{TalliedDisk}
@@ -44,3 +45,14 @@ single-all format = by (tracks format)
     by : (ts : List TrackId) → list_all (reaches Single) ts ≡ true
     by [] = refl
     by (t ∷ ts) = by ts
+
+-- one by numbers more
+pub numbered-more : (before : List TalliedDisk) (told : List NumberedDisk) (i : ℕ) (disk : NumberedDisk) → i < length told → disk ≡ get_or told i disk → (items now : List TalliedDisk)
+    → items ≡ before ++ map trial_of (map by_numbers (take i told)) → now ≡ items ++ trial_of (by_numbers disk) ∷ [] → now ≡ before ++ map trial_of (map by_numbers (take (i + 1) told))
+numbered-more before told i disk low is items now so_far grew =
+    grew ∙ ap (λ (ts : List TalliedDisk). ts ++ trial_of (by_numbers disk) ∷ []) so_far
+    ∙ append_assoc before (map trial_of (map by_numbers (take i told))) (trial_of (by_numbers disk) ∷ [])
+    ∙ ap (λ (ts : List TalliedDisk). before ++ ts)
+    (sym (map-append trial_of (map by_numbers (take i told)) (by_numbers disk ∷ []))
+    ∙ ap (map trial_of)
+    (sym (map-append by_numbers (take i told) (disk ∷ [])) ∙ ap (map by_numbers) (ap (λ (d : NumberedDisk). take i told ++ d ∷ []) is ∙ sym (take_more told i disk low))))

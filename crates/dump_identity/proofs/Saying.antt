@@ -1,22 +1,31 @@
 -- What was held, read and written is what is said of the dump.
-use Rattle.std.proofs.Common.{◌≡◌, ◌<◌, ℕ, zero, suc, Bool, true, false, List, [], ◌∷◌, ◌++◌, length, map, take, ◌⊎◌, inl, inr, Option, None, Some, refl, sym, ap, subst, ◌∙◌, arith}
-use Rattle.std.specs.Prelude.{All, ◌||◌, get_or}
+use Rattle.std.proofs.Common.{◌≡◌, ◌<◌, ◌≤◌, ◌+◌, ℕ, Bool, true, false, List, [], ◌∷◌, ◌++◌, length, map, take, ◌⊎◌, inl, inr, Option, None, Some, refl, sym, ap, subst, ◌∙◌, arith, length-append}
+use Rattle.std.specs.Prelude.{All, ◌||◌, get_or, not}
+use Rattle.std.specs.Option.{is_some}
 use Rattle.std.specs.Io.KnownBytes.{Keeps}
 use Rattle.std.specs.List.{list_any}
 use Rattle.std.proofs.Math.Seq.{take-append_seam}
-use Rattle.std.proofs.lemmas.Bool.{or_parts}
-use Rattle.std.proofs.lemmas.List.{get_or-map, length-map}
-use Rattle.std.proofs.lemmas.List.Elements.{All-map}
+use Rattle.std.proofs.lemmas.List.{get_or-map, length-map, map-append}
+use Rattle.std.proofs.lemmas.List.Elements.{All-append, All-map}
 use Rattle.flux_engine.specs.Plans.{Seen, is_failed}
 use Rattle.sector_report.specs.declared.dump_lines.Passed.{Passed}
 use Rattle.track_shelf.specs.Files.{File}
+use Rattle.track_shelf.specs.Told.{ShelfTold}
+use Rattle.dump_reading.specs.DumpStreams.{AreOfDumps}
 use Rattle.dump_reading.specs.Files.{ShelfNow}
 use Rattle.dump_reading.specs.Outcomes.{IsToldEmpty}
+use Rattle.dump_tallies.specs.Files.{of_files}
 use Rattle.dump_tallies.specs.Tallies.{TalliedDisk}
-use Rattle.dump_identity.specs.Candidates.{candidates}
-use Rattle.dump_identity.specs.Findings.{IsEmptyAs, best_of, disk_as, has_files, identity_of}
+use Rattle.told_disks.specs.declared.disks.NumberedDisk.{NumberedDisk}
+use Rattle.dump_turns.specs.Outcomes.{IsReachTold}
+use Rattle.dump_turns.specs.Reaches.{IsReachOf}
+use Rattle.dump_turns.specs.declared.reach.Reach.{Reach}
+use Rattle.dump_numbers.specs.Found.{FindsDisks}
+use Rattle.dump_numbers.specs.declared.finding.NumbersFound.{NumbersFound}
+use Rattle.dump_identity.specs.Candidates.{by_numbers, candidates}
+use Rattle.dump_identity.specs.Findings.{IsEmptyAs, best_of, disk_as, identity_of}
 use Rattle.dump_identity.specs.Lines.{best_text, lines_of}
-use Rattle.dump_identity.specs.Outcomes.{AllCame, HasNoFiles, WroteIdentity, WroteIntoBest, WroteIntoLine}
+use Rattle.dump_identity.specs.Outcomes.{AllCame, HasNoFiles, HasSomeFile, WroteIdentity, WroteIntoBest, WroteIntoLine, candidates_by}
 use Rattle.dump_identity.specs.Trials.{trial_of}
 use Rattle.dump_identity.specs.declared.candidate.Candidate.{Candidate}
 use Rattle.dump_identity.specs.declared.finding.Finding.{Finding}
@@ -41,20 +50,8 @@ same-many old new same = sym (length-map new candidate_in) ∙ ap (λ (cs : List
 pub all-over : (old new rest : List TalliedDisk) (n : ℕ) → map candidate_in new ≡ map candidate_in old → length old ≡ n → take n (new ++ rest) ≡ new
 all-over old new rest n same many = ap (λ (k : ℕ). take k (new ++ rest)) (sym (same-many old new same ∙ many)) ∙ take-append_seam new rest
 
--- where none is held
+-- a disk of the same candidate is held alike
 module _ (dump : List ℕ) (told : Option (List File)) where
-  not-any : (held : List Bool) (k : ℕ) → list_any (λ b. b) held ≡ false → get_or held k false ≡ false
-  not-any [] k none = refl
-  not-any (h ∷ held) zero none = (or_parts h (list_any (λ b. b) held) none).0
-  not-any (h ∷ held) (suc k) none = not-any held k (or_parts h (list_any (λ b. b) held) none).1
-
-  pub no-files : (disks : List TalliedDisk) (held : List Bool) → AreHeld dump told disks held → list_any (λ b. b) held ≡ false → map candidate_in disks ≡ candidates → HasNoFiles dump told
-  no-files disks held are none all =
-      subst (All (IsEmptyAs dump told)) all
-      (All-map (IsEmptyAs dump told) candidate_in disks
-      (λ k d low. subst (λ (b : Bool). IsHeld dump told (get_or disks k d) b) (not-any held k none) (are.each k d false low)))
-
-  -- a disk of the same candidate is held alike
   like : (old new : TalliedDisk) (held : Bool) → candidate_in new ≡ candidate_in old → IsHeld dump told old held → IsHeld dump told new held
   like old new true same is = subst (λ (c : Candidate). IsToldEmpty (disk_as dump c) told None) (sym same) is
   like old new false same is = subst (λ (c : Candidate). IsEmptyAs dump told c) (sym same) is
@@ -70,38 +67,96 @@ module _ (dump : List ℕ) (told : Option (List File)) where
         (are.each k d b below);
   }
 
-any-files : (findings : List Finding) → list_any has_files findings ≡ list_any (λ b. b) (map has_files findings)
-any-files [] = refl
-any-files (f ∷ findings) = ap (λ (b : Bool). has_files f || b) (any-files findings)
+-- how far the files reach, where they are told
+reach-told : (told : Option (List File)) (dump : List ℕ) (reach : Option Reach) → ((files : List File) → told ≡ Some files → IsReachOf files dump reach) → IsReachTold told dump reach
+reach-told None dump reach of = tt
+reach-told (Some files) dump reach of = of files refl
 
 -- nothing was written
 pub keeps-same : (written : Option (List ℕ)) → Keeps written written
 keeps-same None = tt
 keeps-same (Some bytes) = refl
 
--- All files of the dump came as tracks of all candidates' disks, of which these are held.
-pub record Ready (dump : List ℕ) (start now : ShelfNow) (passed : List (Option Passed)) (disks : List TalliedDisk) (held : List Bool) : Type 0 where
+not-both : true ≡ false → ⊥
+not-both e = cc
+
+module _ (told : Option (List File)) (dump bytes : List ℕ) (same : bytes ≡ dump) where
+  abbrev Reached : Option Reach → Type 0
+  Reached found = (files : List File) → told ≡ Some files → IsReachOf files bytes found
+
+  reached-told : (found : Option Reach) → Reached found → IsReachTold told dump found
+  reached-told found of = reach-told told dump found (λ files known. subst (λ (d : List ℕ). IsReachOf files d found) same (of files known))
+
+  pub reach-none : (found : Option Reach) (none : Bool) → is_some found ≡ not none → none ≡ true → Reached found → HasNoFiles dump told
+  reach-none None none is yes of = reached-told None of
+  reach-none (Some reach) none is yes of = absurd (not-both (is ∙ ap not yes))
+
+  pub reach-some : (found : Option Reach) (none : Bool) → is_some found ≡ not none → none ≡ false → Reached found → HasSomeFile dump told
+  reach-some None none is no of = absurd (not-both (sym (is ∙ ap not no)))
+  reach-some (Some reach) none is no of = (reach, reached-told (Some reach) of)
+
+abbrev pub trials_by : NumbersFound → List TalliedDisk
+trials_by numbers = map trial_of candidates ++ map trial_of (map by_numbers numbers.disks.items)
+
+of-numbers : (numbers : NumbersFound) → map candidate_in (trials_by numbers) ≡ candidates_by numbers
+of-numbers numbers =
+    ap (map candidate_in) (sym (map-append trial_of candidates (map by_numbers numbers.disks.items))) ∙ of-trials (candidates ++ map by_numbers numbers.disks.items)
+
+pub numbers-fresh : (numbers : NumbersFound) → All (λ (d : TalliedDisk). d.tallies ≡ []) (trials_by numbers)
+numbers-fresh numbers =
+    All-append (λ (d : TalliedDisk). d.tallies ≡ []) (map trial_of candidates) (map trial_of (map by_numbers numbers.disks.items)) (trials-fresh candidates)
+    (trials-fresh (map by_numbers numbers.disks.items))
+
+-- those by numbers were appended
+pub pushed : (numbers : NumbersFound) (before now : List TalliedDisk) (told : List NumberedDisk) → now ≡ before ++ map trial_of (map by_numbers told) → told ≡ numbers.disks.items → before ≡ map trial_of candidates
+    → now ≡ trials_by numbers
+pushed numbers before now told grew told_is before_is =
+    grew ∙ ap (λ (ts : List TalliedDisk). ts ++ map trial_of (map by_numbers told)) before_is
+    ∙ ap (λ (ds : List NumberedDisk). map trial_of candidates ++ map trial_of (map by_numbers ds)) told_is
+
+pub pushed-few : (before now : List TalliedDisk) (told : List NumberedDisk) → now ≡ before ++ map trial_of (map by_numbers told) → length told ≤ 40 → length now ≤ length before + 40
+pushed-few before now told grew few =
+    let long : length now ≡ length before + length told =
+    ap (λ (ts : List TalliedDisk). length ts) grew ∙ length-append before (map trial_of (map by_numbers told))
+    ∙ ap (λ (n : ℕ). length before + n) (length-map (map by_numbers told) trial_of ∙ length-map told by_numbers) in
+    omega (arith, long, few)
+
+-- The files told disks by numbers, and then all of them came as tracks of all candidates' disks, of which these are held.
+pub record Ready (dump : List ℕ) (start now : ShelfNow) (numbers : NumbersFound) (passed : List (Option Passed)) (disks : List TalliedDisk) (held : List Bool) : Type 0 where
+  pub between : ShelfNow
+  pub finds : FindsDisks dump start between numbers
   pub old : List TalliedDisk
-  pub all : old ≡ map trial_of candidates
-  pub read : HaveRead dump start now old disks passed 200
-  pub are : AreHeld dump start.told.files old held
+  pub all : old ≡ trials_by numbers
+  pub read : HaveRead dump between now old disks passed 200
+  pub are : AreHeld dump between.told.files old held
 
-pub ready : (dump : List ℕ) (start now : ShelfNow) (first old disks : List TalliedDisk) (passed : List (Option Passed)) (held : List Bool)
-    → first ≡ map trial_of candidates → old ≡ map trial_of candidates → AreHeld dump start.told.files first held → HaveRead dump start now old disks passed 200
-    → (passed' : List (Option Passed)) (disks' : List TalliedDisk) (held' : List Bool) → passed' ≡ passed → disks' ≡ disks → held' ≡ held → Ready dump start now passed' disks' held'
-ready dump start now first old disks passed held first_is old_is are read passed' disks' held' same_passed same_disks same_held =
-    subst (λ (ps : List (Option Passed)). Ready dump start now ps disks' held') (sym same_passed)
-    (subst (λ (ds : List TalliedDisk). Ready dump start now passed ds held') (sym same_disks)
-    (subst (λ (hs : List Bool). Ready dump start now passed disks hs) (sym same_held)
-    (record { old = old; all = old_is; read = read; are = subst (λ (ds : List TalliedDisk). AreHeld dump start.told.files ds held) (first_is ∙ sym old_is) are })))
+pub ready : (dump : List ℕ) (start between now : ShelfNow) (numbers : NumbersFound) → FindsDisks dump start between numbers → (first old disks : List TalliedDisk) (passed : List (Option Passed)) (held : List Bool)
+    → first ≡ trials_by numbers → old ≡ trials_by numbers → AreHeld dump between.told.files first held → HaveRead dump between now old disks passed 200
+    → (passed' : List (Option Passed)) (disks' : List TalliedDisk) (held' : List Bool) → passed' ≡ passed → disks' ≡ disks → held' ≡ held → Ready dump start now numbers passed' disks' held'
+ready dump start between now numbers finds first old disks passed held first_is old_is are read passed' disks' held' same_passed same_disks same_held =
+    subst (λ (ps : List (Option Passed)). Ready dump start now numbers ps disks' held') (sym same_passed)
+    (subst (λ (ds : List TalliedDisk). Ready dump start now numbers passed ds held') (sym same_disks)
+    (subst (λ (hs : List Bool). Ready dump start now numbers passed disks hs) (sym same_held)
+    (record {
+      between = between;
+      finds = finds;
+      old = old;
+      all = old_is;
+      read = read;
+      are = subst (λ (ds : List TalliedDisk). AreHeld dump between.told.files ds held) (first_is ∙ sym old_is) are;
+    })))
 
-module _ (dump : List ℕ) (start now : ShelfNow) (passed : List (Option Passed)) (disks : List TalliedDisk) (held : List Bool) (r : Ready dump start now passed disks held) where
+module _ (dump : List ℕ) (start now : ShelfNow) (numbers : NumbersFound) (passed : List (Option Passed)) (disks : List TalliedDisk) (held : List Bool) (r : Ready dump start now numbers passed disks held) where
+  -- the files stay as they were
+  same-files : r.between.told.files ≡ start.told.files
+  same-files = ap (λ (t : ShelfTold). t.files) r.finds.have.told
+
   pub known : AreKnown dump start.told.files r.read.came passed disks held
   known = record {
     passed_are = r.read.passed_are;
-    of = r.read.have.are;
+    of = subst (λ (told : Option (List File)). AreOfDumps (of_files dump) told r.read.came) same-files r.read.have.are;
     tallied = r.read.noted.each;
-    held_are = all-like dump start.told.files r.old disks held r.read.noted.same r.are;
+    held_are = subst (λ (told : Option (List File)). AreHeld dump told disks held) same-files (all-like dump r.between.told.files r.old disks held r.read.noted.same r.are);
   }
 
   pub passed-many : length passed ≡ 200
@@ -114,27 +169,27 @@ module _ (dump : List ℕ) (start now : ShelfNow) (passed : List (Option Passed)
   held-many = known.held_are.many
 
   abbrev files : AllCame dump start now
-  files = record { came = r.read.came; many = r.read.many; have = r.read.have }
+  files = record { between = r.between; numbers = numbers; finds = r.finds; came = r.read.came; many = r.read.many; have = r.read.have }
 
-  of-all : map candidate_in disks ≡ candidates
-  of-all = r.read.noted.same ∙ ap (map candidate_in) r.all ∙ of-trials candidates
+  of-all : map candidate_in disks ≡ candidates_by numbers
+  of-all = r.read.noted.same ∙ ap (map candidate_in) r.all ∙ of-numbers numbers
 
   module _ (lines after : Option (List ℕ)) where
     -- all was written
-    pub all-said : list_any (λ b. b) held ≡ true → (best : Option Finding) → HaveSaid dump start.told.files r.read.came disks held lines after best
-        → (failed : Bool) → failed ≡ list_any is_failed passed → WroteIdentity dump start now lines after (record { best = best; failed = failed })
-    all-said any best said failed failed_is = record {
-      outcome = record { lines = lines_of said.findings ++ best_text (best_of said.findings); identity = identity_of r.read.came said.findings };
+    pub all-said : HasSomeFile dump start.told.files → (best : Option Finding) → HaveSaid dump start.told.files r.read.came disks lines after best
+        → (failed : Bool) → failed ≡ list_any is_failed passed → WroteIdentity dump start now lines after (record { best = best; failed = numbers.failed || failed })
+    all-said some best said failed failed_is = record {
+      outcome = record { lines = lines_of said.findings ++ best_text (best_of said.findings); identity = identity_of numbers.failed r.read.came said.findings };
       is = record {
+        some = some;
         files = files;
         findings = said.findings;
         all = record { all = said.of ∙ of-all; are = said.are };
-        some = any-files said.findings ∙ ap (list_any (λ b. b)) said.has ∙ any;
         is = refl;
       };
       grew = said.grew;
-      identity_is = ap (λ (o : Option Finding). let i : Identity = record { best = o; failed = failed } in i) said.best_is
-          ∙ ap (λ (b : Bool). let i : Identity = record { best = best_of said.findings; failed = b } in i)
+      identity_is = ap (λ (o : Option Finding). let i : Identity = record { best = o; failed = numbers.failed || failed } in i) said.best_is
+          ∙ ap (λ (b : Bool). let i : Identity = record { best = best_of said.findings; failed = numbers.failed || b } in i)
           (failed_is ∙ ap (list_any is_failed) r.read.passed_are ∙ any-lost r.read.came);
     }
 

@@ -1,6 +1,6 @@
 -- The lines of the first disks were written.
-use Rattle.std.proofs.Common.{◌≡◌, ◌≤◌, ◌<◌, ◌+◌, ◌++◌, ℕ, Bool, List, [], ◌∷◌, length, map, take, drop, Option, None, refl, sym, ap, subst, ◌∙◌, arith, append-nil}
-use Rattle.std.specs.Prelude.{get_or}
+use Rattle.std.proofs.Common.{◌≡◌, ◌≤◌, ◌<◌, ◌+◌, ◌++◌, ℕ, Bool, List, [], ◌∷◌, length, map, take, drop, Option, None, refl, sym, ap, subst, ◌∙◌, arith, append_assoc, append-nil}
+use Rattle.std.specs.Prelude.{All, get_or}
 use Rattle.std.specs.Io.KnownBytes.{Appends}
 use Rattle.std.proofs.KnownBytes.{Appends-nil, Appends-trans}
 use Rattle.std.proofs.lemmas.List.{map-append, take-append-drop, take_all, take_more}
@@ -11,7 +11,7 @@ use Rattle.flux_engine.specs.Plans.{Seen}
 use Rattle.sector_report.specs.declared.dump_lines.Passed.{Passed}
 use Rattle.track_shelf.specs.Files.{File}
 use Rattle.dump_tallies.specs.Tallies.{AreTallied, TalliedDisk}
-use Rattle.dump_identity.specs.Findings.{AreFindings, ComesTo, best_of, has_files}
+use Rattle.dump_identity.specs.Findings.{AreFindings, ComesTo, best_of}
 use Rattle.dump_identity.specs.Lines.{best_text, line_of, lines_of}
 use Rattle.dump_identity.specs.Outcomes.{candidates_in}
 use Rattle.dump_identity.specs.declared.candidate.Candidate.{Candidate}
@@ -22,24 +22,21 @@ lines-next : (findings : List Finding) (next : Finding) → lines_of (findings +
 lines-next findings next = flat_map-append line_of findings (next ∷ []) ∙ ap (λ (r : List ℕ). lines_of findings ++ r) (append-nil (line_of next))
 
 module _ (dump : List ℕ) (told : Option (List File)) (came : List Seen) (lines : Option (List ℕ)) where
-  pub told-none : HaveTold dump told came [] [] lines lines None
+  pub told-none : HaveTold dump told came [] lines lines None
   unfolding best_of
-  told-none = record { findings = []; of = refl; has = refl; are = λ k d low. absurd (omega (arith, low)); grew = Appends-nil lines; best_is = refl }
+  told-none = record { findings = []; of = refl; are = λ k d low. absurd (omega (arith, low)); grew = Appends-nil lines; best_is = refl }
 
   -- all were
-  pub told-all : (disks : List TalliedDisk) (held : List Bool) → length held ≡ length disks → (n : ℕ) → length disks ≤ n → (written : Option (List ℕ)) (best : Option Finding)
-      → HaveTold dump told came (take n disks) (take n held) lines written best → HaveTold dump told came disks held lines written best
-  told-all disks held many n past written best h =
-      subst (λ (ds : List TalliedDisk). HaveTold dump told came ds held lines written best) (take_all n disks past)
-      (subst (λ (hs : List Bool). HaveTold dump told came (take n disks) hs lines written best) (take_all n held (omega (arith, many, past))) h)
+  pub told-all : (disks : List TalliedDisk) (n : ℕ) → length disks ≤ n → (written : Option (List ℕ)) (best : Option Finding) → HaveTold dump told came (take n disks) lines written best
+      → HaveTold dump told came disks lines written best
+  told-all disks n past written best h = subst (λ (ds : List TalliedDisk). HaveTold dump told came ds lines written best) (take_all n disks past) h
 
-  module _ (disks : List TalliedDisk) (held : List Bool) (mid after : Option (List ℕ)) (best : Option Finding) (h : HaveTold dump told came disks held lines mid best) where
+  module _ (disks : List TalliedDisk) (mid after : Option (List ℕ)) (best : Option Finding) (h : HaveTold dump told came disks lines mid best) where
     -- the last line was written
-    pub said-best : Appends mid after (best_text best) → HaveSaid dump told came disks held lines after best
+    pub said-best : Appends mid after (best_text best) → HaveSaid dump told came disks lines after best
     said-best grew = record {
       findings = h.findings;
       of = h.of;
-      has = h.has;
       are = h.are;
       grew = Appends-trans lines mid after (lines_of h.findings) (best_text (best_of h.findings)) h.grew
           (subst (λ (o : Option Finding). Appends mid after (best_text o)) h.best_is grew);
@@ -60,9 +57,9 @@ module _ (dump : List ℕ) (told : Option (List File)) (came : List Seen) (lines
   abbrev Comes : Finding → Type 0
   Comes f = ComesTo dump told came f.candidate f.totals
 
-  module _ (passed : List (Option Passed)) (disks : List TalliedDisk) (held : List Bool) (known : AreKnown dump told came passed disks held) (n : ℕ) (low : n < length disks) (held_low : n < length held)
+  module _ (passed : List (Option Passed)) (disks : List TalliedDisk) (held : List Bool) (known : AreKnown dump told came passed disks held) (n : ℕ) (low : n < length disks)
       (d : TalliedDisk) (d_is : d ≡ get_or disks n d) (b : Bool)
-      (mid : Option (List ℕ)) (best : Option Finding) (h : HaveTold dump told came (take n disks) (take n held) lines mid best)
+      (mid : Option (List ℕ)) (best : Option Finding) (h : HaveTold dump told came (take n disks) lines mid best)
       (finding : Finding) (finds : FindsOne passed d (get_or held n b) finding) where
     abbrev here : TalliedDisk
     here = get_or disks n d
@@ -83,18 +80,12 @@ module _ (dump : List ℕ) (told : Option (List File)) (came : List Seen) (lines
         map-append (λ (f : Finding). f.candidate) h.findings (finding ∷ []) ∙ ap (λ (cs : List Candidate). cs ++ finding.candidate ∷ []) h.of
         ∙ ap (λ (c : Candidate). map candidate_in (take n disks) ++ c ∷ []) found.of ∙ sym (map-append candidate_in (take n disks) (here ∷ []))
 
-    has-more : map has_files (h.findings ++ finding ∷ []) ≡ take n held ++ get_or held n b ∷ []
-    has-more =
-        map-append has_files h.findings (finding ∷ []) ∙ ap (λ (bs : List Bool). bs ++ has_files finding ∷ []) h.has
-        ∙ ap (λ (h' : Bool). take n held ++ h' ∷ []) found.has
-
     -- one more
     pub told-more : (written : Option (List ℕ)) (next : Option Finding) → Appends mid written (line_of finding)
-        → ((before : List Finding) → best ≡ best_of before → next ≡ best_of (before ++ finding ∷ [])) → HaveTold dump told came (take (n + 1) disks) (take (n + 1) held) lines written next
+        → ((before : List Finding) → best ≡ best_of before → next ≡ best_of (before ++ finding ∷ [])) → HaveTold dump told came (take (n + 1) disks) lines written next
     told-more written next grew better = record {
       findings = h.findings ++ finding ∷ [];
       of = of-more ∙ ap (map candidate_in) (sym (take_more disks n d low));
-      has = has-more ∙ sym (take_more held n b held_low);
       are = are-more;
       grew = subst (Appends lines written) (sym (lines-next h.findings finding)) (Appends-trans lines mid written (lines_of h.findings) (line_of finding) h.grew grew);
       best_is = better h.findings h.best_is;

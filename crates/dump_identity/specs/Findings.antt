@@ -1,5 +1,5 @@
 -- What reading a dump as each disk comes to, and which disk is the best.
-use Rattle.std.specs.Prelude.{All, ◌&&◌, ◌*◌, if◌then◌else◌, ℕ, Bool, false, not, nat_eq}
+use Rattle.std.specs.Prelude.{All, ◌≡◌, ◌&&◌, ◌||◌, ◌*◌, if◌then◌else◌, ℕ, Bool, false, not, nat_eq}
 use Rattle.std.specs.Prelude.{nat_lt, List, find, Option, Some, None}
 use Rattle.std.specs.List.{list_all}
 use Rattle.std.specs.Option.{is_some}
@@ -96,7 +96,8 @@ complete_in (Some totals) = are_complete totals
 abbrev pub is_complete : Finding → Bool
 is_complete f = complete_in f.totals
 
--- what is known of the dump: the best of some candidates, and whether a file failed
-abbrev pub identity_of : (came : List Seen) → List Finding → Identity
-identity_of came findings =
-    record { best = best_of findings; failed = nat_lt 0 (lost_count came) }
+-- what is known of the dump: the best of some candidates, and whether a file failed as its disks by
+-- numbers were found, or as it was read
+abbrev pub identity_of : (failed : Bool) → (came : List Seen) → List Finding → Identity
+identity_of failed came findings =
+    record { best = best_of findings; failed = failed || nat_lt 0 (lost_count came) }

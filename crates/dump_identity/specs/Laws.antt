@@ -47,12 +47,13 @@ CompleteIsReadWhole =
     → (best : Finding) → o.identity.best ≡ Some best → is_complete best ≡ true
     → IsReadWhole dump start.told.files best.candidate
 
--- The files, and which of them failed, decide what is said.
+-- The files, and which of them failed each time, decide what is said.
 abbrev pub IdentitiesAreOne : Type 0
 IdentitiesAreOne = (dump : List ℕ) (files : List File) (start now start' now' : ShelfNow)
     → start.told.files ≡ Some files → start'.told.files ≡ Some files
     → (a b : Identified) (one : IsIdentified dump start now a)
     (other : IsIdentified dump start' now' b)
+    → FailedAlike one.files.finds.came other.files.finds.came
     → FailedAlike one.files.came other.files.came → a ≡ b
 
 -- nothing is said of a dump without files

@@ -1,9 +1,8 @@
 -- What saying which disk a dump is of may answer, and what that says of the dump and
 -- of the bytes that were written.
-use Rattle.std.specs.Prelude.{All, ◌≡◌, ◌⊎◌, ℕ, true, List, [], ◌∷◌, ◌++◌, length, map, Option}
-use Rattle.std.specs.Prelude.{Result, Ok, Err}
+use Rattle.std.specs.Prelude.{◌≡◌, ◌⊎◌, ℕ, List, [], ◌∷◌, ◌++◌, length, map, Option}
+use Rattle.std.specs.Prelude.{Some, None, Result, Ok, Err}
 use Rattle.std.specs.Io.KnownBytes.{Appends, Keeps}
-use Rattle.std.specs.List.{list_any}
 use Rattle.flux_engine.specs.Answers.{AppendsAndPart}
 use Rattle.flux_engine.specs.Plans.{Seen}
 use Rattle.flux_engine.specs.declared.fault.Stopped.{Stopped}
@@ -14,8 +13,12 @@ use Rattle.dump_reading.specs.DumpStreams.{HaveComeOf}
 use Rattle.dump_reading.specs.Files.{ShelfNow}
 use Rattle.dump_reading.specs.declared.fault.NoFiles.{NoFiles}
 use Rattle.dump_tallies.specs.Files.{MOST_FILES, of_files}
-use Rattle.dump_identity.specs.Candidates.{candidates}
-use Rattle.dump_identity.specs.Findings.{AreFindings, IsEmptyAs, best_of, has_files, identity_of}
+use Rattle.dump_turns.specs.Outcomes.{IsReachTold}
+use Rattle.dump_turns.specs.declared.reach.Reach.{Reach}
+use Rattle.dump_numbers.specs.Found.{FindsDisks}
+use Rattle.dump_numbers.specs.declared.finding.NumbersFound.{NumbersFound}
+use Rattle.dump_identity.specs.Candidates.{candidates_with}
+use Rattle.dump_identity.specs.Findings.{AreFindings, best_of, identity_of}
 use Rattle.dump_identity.specs.Lines.{best_text, line_of, lines_of}
 use Rattle.dump_identity.specs.declared.candidate.Candidate.{Candidate}
 use Rattle.dump_identity.specs.declared.finding.Finding.{Finding}
@@ -24,25 +27,40 @@ use Rattle.dump_identity.specs.declared.identity.Identity.{Identity}
 abbrev pub candidates_in : List Finding → List Candidate
 candidates_in findings = map (λ f. f.candidate) findings
 
--- All files that the dump may have were opened once between two moments of the shelf, and this came
--- of them. Of what the shelf tells of itself nothing changed, but which of them failed.
+-- The dump's files were opened between two moments of the shelf: once, and told disks by numbers,
+-- and then all that it may have once more, and this came of them. Of what the shelf tells of itself
+-- nothing changed, but which of them failed.
 pub record AllCame (dump : List ℕ) (start now : ShelfNow) : Type 0 where
+  pub between : ShelfNow
+  pub numbers : NumbersFound
+  pub finds : FindsDisks dump start between numbers
   pub came : List Seen
   pub many : length came ≡ MOST_FILES
-  pub have : HaveComeOf (of_files dump) start now came
+  pub have : HaveComeOf (of_files dump) between now came
+
+-- the candidates where these are the disks by numbers
+abbrev pub candidates_by : NumbersFound → List Candidate
+candidates_by numbers = candidates_with numbers.disks.items
 
 -- what all candidates come to, in order
 pub record AreAllFindings (dump : List ℕ) (told : Option (List File)) (came : List Seen)
-    (findings : List Finding) : Type 0 where
+    (candidates : List Candidate) (findings : List Finding) : Type 0 where
   pub all : candidates_in findings ≡ candidates
   pub are : AreFindings dump told came findings
 
 -- what the first candidates come to
 pub record AreFirstFindings (dump : List ℕ) (told : Option (List File)) (came : List Seen)
-    (findings : List Finding) : Type 0 where
+    (candidates : List Candidate) (findings : List Finding) : Type 0 where
   pub behind : List Candidate
   pub first : candidates_in findings ++ behind ≡ candidates
   pub are : AreFindings dump told came findings
+
+-- the dump has a file of a cylinder from 0 to 98; or none of any of them
+abbrev pub HasSomeFile : (dump : List ℕ) → (told : Option (List File)) → Type 0
+HasSomeFile dump told = (reach : Reach) × IsReachTold told dump (Some reach)
+
+abbrev pub HasNoFiles : (dump : List ℕ) → (told : Option (List File)) → Type 0
+HasNoFiles dump told = IsReachTold told dump None
 
 -- what is said of a dump: the bytes that are written, and what is known
 pub record Identified : Type 0 where
@@ -51,19 +69,15 @@ pub record Identified : Type 0 where
 
 -- between two moments of the shelf, by the files that are told
 pub record IsIdentified (dump : List ℕ) (start now : ShelfNow) (o : Identified) : Type 0 where
+  pub some : HasSomeFile dump start.told.files
   pub files : AllCame dump start now
   pub findings : List Finding
-  pub all : AreAllFindings dump start.told.files files.came findings
-  pub some : list_any has_files findings ≡ true
+  pub all : AreAllFindings dump start.told.files files.came (candidates_by files.numbers) findings
   pub is : o
       ≡ record {
         lines = lines_of findings ++ best_text (best_of findings);
-        identity = identity_of files.came findings;
+        identity = identity_of files.numbers.failed files.came findings;
       }
-
--- the dump has no file of any track of any of these disks
-abbrev pub HasNoFiles : (dump : List ℕ) → (told : Option (List File)) → Type 0
-HasNoFiles dump told = All (IsEmptyAs dump told) candidates
 
 -- all of it was written
 pub record WroteIdentity (dump : List ℕ) (start now : ShelfNow) (lines lines' : Option (List ℕ))
@@ -80,7 +94,8 @@ pub record WroteIntoLine (dump : List ℕ) (start now : ShelfNow)
   pub files : AllCame dump start now
   pub findings : List Finding
   pub next : Finding
-  pub first : AreFirstFindings dump start.told.files files.came (findings ++ next ∷ [])
+  pub first : AreFirstFindings dump start.told.files files.came
+      (candidates_by files.numbers) (findings ++ next ∷ [])
   pub grew : AppendsAndPart lines lines' (lines_of findings) (line_of next)
 
 -- all was written but the last line: of it a part that is shorter than it
@@ -88,7 +103,7 @@ pub record WroteIntoBest (dump : List ℕ) (start now : ShelfNow)
     (lines lines' : Option (List ℕ)) : Type 0 where
   pub files : AllCame dump start now
   pub findings : List Finding
-  pub all : AreAllFindings dump start.told.files files.came findings
+  pub all : AreAllFindings dump start.told.files files.came (candidates_by files.numbers) findings
   pub grew : AppendsAndPart lines lines' (lines_of findings) (best_text (best_of findings))
 
 -- What an answer says. A dump without files is told before anything is written, as

@@ -19,26 +19,29 @@ use crate::finding::Finding;
 use crate::identity::Identity;
 use crate::lines::{best_line, finding_line};
 use crate::reading::{find_files, read_files};
-use crate::room::IdentityRoom;
+use crate::room::{IdentityRoom, push_numbered};
 use crate::tried::better_of;
+use dump_numbers::find_numbers;
 use dump_reading::NoFiles;
 use dump_tallies::DiskTally;
+use dump_turns::find_reach;
 use flux_base::{Failed, Sink, Word};
 use flux_engine::Stopped;
 use sector_report::{Passed, write_line};
 use track_shelf::Shelf;
 
 /// Says which disk a dump is of: one of the formats that have a name, with one step for each cylinder, and for those
-/// of up to 42 cylinders with two. Each file that the dump may have is read once, as a track of each of these disks. What
-/// a disk comes to is what reading the dump as it does, by the clock that follows the drive alone; the files beside its
-/// tracks are among it where a sector is good. Each disk that has a good sector gets a line, in the order of the formats'
-/// table, and the last line names the best: the one with most bytes in good sectors, of those the one with fewest other
-/// names that have whole data, of those the one with fewest sectors, and of those the first. A file that fails is passed
-/// over. No answer is for want of memory.
+/// of up to 42 cylinders with two; or a disk by its numbers that the names in the dump's headers tell. Each file of the
+/// dump is read once to find these, and once more as a track of each of all these disks. What a disk comes to is what
+/// reading the dump as it does, by the clock that follows the drive alone; the files beside its tracks are among it where
+/// a sector is good. Each disk that has a good sector gets a line, in the order of the formats' table and those by numbers
+/// behind them, and the last line names the best: the one with most bytes in good sectors, of those the one with fewest
+/// other names that have whole data, of those the one with fewest sectors, and of those the first. A file that fails is
+/// passed over. No answer is for want of memory.
 ///
-/// A dump that has no file of any track is refused, and nothing is read or written. After a fault of the sink nothing
-/// more is written, and the lines before are written whole. `ImageFault` is that of the lines. No notes are written,
-/// so `NotesFault` does not come.
+/// A dump that has no file of the cylinders 0 to 98 is refused, and nothing is read or written. After a fault of the sink
+/// nothing more is written, and the lines before are written whole. `ImageFault` is that of the lines. No notes are
+/// written, so `NotesFault` does not come.
 pub fn identify<H: Shelf, W: Sink>(
     dump: &Word,
     room: IdentityRoom,
@@ -54,9 +57,12 @@ pub fn identify<H: Shelf, W: Sink>(
         (three_counts no_counts (sink_counts W.Sink lines.new) no_counts) }
 {
     let mut room = room;
-    if !find_files(dump, &room.disks, &mut room.held, shelf) {
+    if find_reach(dump.bytes(), shelf).is_none() {
         return Err(Stopped::Refused(NoFiles { dump: 0 }));
     }
+    let numbers = find_numbers(dump, room.numbers, shelf);
+    push_numbered(&numbers.disks, &mut room.spare, &mut room.disks);
+    find_files(dump, &room.disks, &mut room.held, shelf);
     read_files(
         dump,
         &mut room.stream,
@@ -67,7 +73,7 @@ pub fn identify<H: Shelf, W: Sink>(
     match tell_best(&room.passed, &room.disks, &room.held, lines) {
         Ok(best) => Ok(Identity {
             best,
-            failed: have_failed(&room.passed),
+            failed: numbers.failed | have_failed(&room.passed),
         }),
         Err(Failed) => Err(Stopped::ImageFault),
     }
@@ -95,7 +101,7 @@ fn tell_best<W: Sink>(
         (λ best.
         (dump : List ℕ) (told : Option (List File)) (came : List Seen)
         → AreKnown dump told came passed.now disks.now held.now
-        → HaveSaid dump told came disks.now held.now (W.written lines.old) (W.written lines.new) best) }
+        → HaveSaid dump told came disks.now (W.written lines.old) (W.written lines.new) best) }
     ensures err { OnErr result
         ((dump : List ℕ) (told : Option (List File)) (came : List Seen)
         → AreKnown dump told came passed.now disks.now held.now
@@ -127,7 +133,7 @@ fn tell_all<W: Sink>(
         (λ best.
         (dump : List ℕ) (told : Option (List File)) (came : List Seen)
         → AreKnown dump told came passed.now disks.now held.now
-        → HaveTold dump told came disks.now held.now (W.written lines.old) (W.written lines.new) best) }
+        → HaveTold dump told came disks.now (W.written lines.old) (W.written lines.new) best) }
     ensures err { OnErr result
         ((dump : List ℕ) (told : Option (List File)) (came : List Seen)
         → AreKnown dump told came passed.now disks.now held.now

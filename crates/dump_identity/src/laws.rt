@@ -3,6 +3,7 @@
 ghost use Rattle.dump_identity.specs.Laws.{CompleteIsReadWhole, IdentitiesAreOne, LinesAreOfAllFiles};
 ghost use Rattle.dump_identity.specs.Laws.{NoFilesAreNoIdentity};
 
+use dump_numbers::numbers_are_one;
 use law_read_dumps::dumps_are_one;
 
 /// The line of a disk has the numbers that reading the dump with its words comes to, by the clock that follows the
@@ -22,5 +23,6 @@ pub fn identities_are_one()
     ensures one { IdentitiesAreOne }
     ensures refused { NoFilesAreNoIdentity }
 {
-    dumps_are_one()
+    dumps_are_one();
+    numbers_are_one();
 }

@@ -1,5 +1,5 @@
-//! Which disk a dump is of: each of its files is read once, as a track of a disk of each format that has a name,
-//! and what each disk comes to is said.
+//! Which disk a dump is of: its files tell disks by numbers, then each is read once more, as a track of these and of
+//! each disk that has a name, and what each disk comes to is said.
 #![tactic(auto)]
 
 mod candidate;

@@ -1,7 +1,6 @@
 //! One reading of a dump's files, as the tracks of many disks.
 
 ghost use Rattle.std.specs.Prelude.{◌≡◌, ◌≤◌, All, [], length};
-ghost use Rattle.std.specs.List.{list_any};
 ghost use Rattle.std.specs.Vec.{vec_capacity};
 ghost use Rattle.dump_reading.specs.Files.{shelf_at};
 ghost use Rattle.dump_identity.specs.inside.Outcomes.{AreHeld, HaveRead, IsHeld};
@@ -14,25 +13,20 @@ use sector_report::Passed;
 use std::slice::from_ref;
 use track_shelf::{Shelf, Stepping};
 
-/// Finds out of which disks a dump has a file of a track, and whether of any. Nothing is opened to be read.
+/// Finds out of which disks a dump has a file of a track. Nothing is opened to be read.
 pub(crate) fn find_files<H: Shelf>(
     dump: &Word,
     disks: &[DiskTally],
     held: &mut Vec<bool>,
     shelf: &H,
-) -> bool
+)
     requires none { held.old.items ≡ [] }
     requires room { length disks.now ≤ vec_capacity held.old }
-    ensures held { AreHeld dump.now (H.files shelf.now) disks.now held.new.items }
-    ensures any { result ≡ list_any (λ held. held) held.new.items }
+    ensures { AreHeld dump.now (H.files shelf.now) disks.now held.new.items }
 {
-    let mut any = false;
     for number in 0..disks.len() {
-        let here = has_files(dump, &disks[number], shelf);
-        held.push_reserved(here);
-        any |= here;
+        held.push_reserved(has_files(dump, &disks[number], shelf));
     }
-    any
 }
 
 /// Whether a dump has a file of a track of this disk.

@@ -1,11 +1,14 @@
 //! The memory for reading a dump as every disk.
 
-ghost use Rattle.std.specs.Prelude.{◌≡◌, ◌≤◌, [], ◌∷◌, ◌++◌, false, true, map, OnOk};
+ghost use Rattle.std.specs.Prelude.{◌≡◌, ◌≤◌, ◌+◌, [], ◌∷◌, ◌++◌, false, true, All, length, map, IfOk, OnOk};
+ghost use Rattle.std.specs.Vec.{vec_capacity};
+ghost use Rattle.sector_images.specs.declared.format.Format.TheVariants.{Numbered};
 ghost use Rattle.track_shelf.specs.Stepping.{reaches_all};
-ghost use Rattle.dump_identity.specs.Candidates.{candidates_of};
+ghost use Rattle.dump_identity.specs.Candidates.{by_numbers, candidates_of};
 ghost use Rattle.dump_identity.specs.Trials.{trial_of};
 
-use dump_tallies::{DiskTally, MOST_FILES};
+use dump_numbers::{NumberedDisk, NumbersRoom};
+use dump_tallies::{DiskTally, MOST_FILES, TallyRoom};
 use flux_base::Memory;
 use flux_engine::SharedStream;
 use sector_images::{Format, all_formats};
@@ -14,20 +17,26 @@ use std::alloc::Global;
 use std::marker::Model;
 use track_shelf::Stepping;
 
-/// All memory that reading a dump as every disk takes, less than 128 MiB. It serves once.
+/// The most disks by numbers of which a dump may be: of five rates, each of four sizes by two steps.
+const MOST_BY_NUMBERS: usize = 40;
+
+/// All memory that reading a dump as every disk takes, less than 256 MiB. It serves once.
 #[derive(Drop)]
 pub struct IdentityRoom {
+    pub(crate) numbers: NumbersRoom,
     pub(crate) stream: SharedStream,
     /// Why each file that came is passed over, if it is.
     pub(crate) passed: Vec<Option<Passed>>,
-    /// All candidates, in order.
+    /// All candidates that have names, in order.
     pub(crate) disks: Vec<DiskTally>,
+    /// Memory for those by numbers.
+    pub(crate) spare: Vec<TallyRoom>,
     /// Whether the dump has a file of one of the tracks of each.
     pub(crate) held: Vec<bool>,
 }
 
 impl Model for IdentityRoom {
-    ghost use Rattle.std.specs.Prelude.{◌≡◌, ◌≤◌, [], length, map};
+    ghost use Rattle.std.specs.Prelude.{◌≡◌, ◌≤◌, ◌+◌, [], length, map};
     ghost use Rattle.std.specs.Vec.{vec_capacity};
     ghost use Rattle.dump_identity.specs.Candidates.{candidates};
     ghost use Rattle.dump_identity.specs.Trials.{trial_of};
@@ -37,27 +46,46 @@ impl Model for IdentityRoom {
     ghost view = { λ room. record {} };
 
     ghost invariant = { λ room. (room.disks.items ≡ map trial_of candidates)
-        × (room.held.items ≡ []) × (length room.disks.items ≤ vec_capacity room.held)
+        × (length room.disks.items + 40 ≤ vec_capacity room.disks)
+        × (length room.spare.items ≡ 40)
+        × (room.held.items ≡ []) × (length room.disks.items + 40 ≤ vec_capacity room.held)
         × (room.passed.items ≡ []) × (200 ≤ vec_capacity room.passed) };
 }
 
 impl IdentityRoom {
-    /// Takes it. What is in it then is the invariant: all candidates in order, for none of which a file came.
+    /// Takes it. What is in it then is the invariant: all candidates that have names, for none of which a file came, and
+    /// room for those by numbers.
     pub fn reserve(alloc: Global) -> Result<IdentityRoom, Memory> {
+        let numbers = NumbersRoom::reserve(alloc)?;
         let stream = SharedStream::reserve(alloc)?;
         let passed = Vec::with_capacity(alloc, usize::from(MOST_FILES))?;
         let mut disks = Vec::new(alloc);
         for format in all_formats() {
             push_disks(alloc, *format, &mut disks)?;
         }
-        let held = Vec::with_capacity(alloc, disks.len())?;
+        disks.reserve(MOST_BY_NUMBERS)?;
+        let spare = spare_rooms(alloc)?;
+        let held = Vec::with_capacity(alloc, disks.capacity())?;
         Ok(IdentityRoom {
+            numbers,
             stream,
             passed,
             disks,
+            spare,
             held,
         })
     }
+}
+
+/// Memory for the candidates by numbers.
+fn spare_rooms(alloc: Global) -> Result<Vec<TallyRoom>, Memory>
+    ensures { IfOk result (λ spare. length spare.items ≡ 40) }
+{
+    let mut spare = Vec::with_capacity(alloc, MOST_BY_NUMBERS)?;
+    for _number in 0..MOST_BY_NUMBERS {
+        spare.push_reserved(TallyRoom::reserve(alloc)?);
+    }
+    Ok(spare)
 }
 
 /// Appends the candidates of a format: with one step for each cylinder, and with two where
@@ -87,4 +115,26 @@ fn push_disk(
     let disk = DiskTally::reserve(alloc, stepping, format)?;
     disks.push(disk)?;
     Ok(())
+}
+
+/// Appends the candidates by numbers.
+pub(crate) fn push_numbered(
+    told: &[NumberedDisk],
+    spare: &mut Vec<TallyRoom>,
+    disks: &mut Vec<DiskTally>,
+)
+    requires few { length told.now ≤ length spare.old.items }
+    requires room { length disks.old.items + length told.now ≤ vec_capacity disks.old }
+    requires reached { All (λ disk. reaches_all disk.stepping (Numbered disk.disk) ≡ true) told.now }
+    ensures { disks.new.items ≡ disks.old.items ++ map trial_of (map by_numbers told.now) }
+{
+    for number in 0..told.len() {
+        let disk = told[number];
+        let room = spare.take_last();
+        disks.push_reserved(DiskTally::begin(
+            room,
+            disk.stepping,
+            Format::Numbered(disk.disk),
+        ));
+    }
 }

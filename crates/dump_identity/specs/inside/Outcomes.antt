@@ -13,7 +13,6 @@ use Rattle.dump_tallies.specs.Files.{of_files}
 use Rattle.dump_tallies.specs.Numbers.{passed_of}
 use Rattle.dump_tallies.specs.Tallies.{AreTallied, TalliedDisk}
 use Rattle.dump_identity.specs.Findings.{AreFindings, ComesTo, IsEmptyAs, best_of, disk_as}
-use Rattle.dump_identity.specs.Findings.{has_files}
 use Rattle.dump_identity.specs.Lines.{best_text, line_of, lines_of}
 use Rattle.dump_identity.specs.Outcomes.{candidates_in}
 use Rattle.dump_identity.specs.declared.candidate.Candidate.{Candidate}
@@ -52,7 +51,6 @@ pub record AreHeld (dump : List ℕ) (told : Option (List File)) (disks : List T
 pub record FindsOne (passed : List (Option Passed)) (disk : TalliedDisk) (held : Bool)
     (finding : Finding) : Type 0 where
   pub of : finding.candidate ≡ candidate_in disk
-  pub has : has_files finding ≡ held
   pub comes : (dump : List ℕ) (told : Option (List File)) (came : List Seen)
       → passed ≡ passed_of came → AreOfDumps (of_files dump) told came → AreTallied disk came
       → IsHeld dump told disk held
@@ -66,25 +64,22 @@ pub record AreKnown (dump : List ℕ) (told : Option (List File)) (came : List S
   pub tallied : All (λ disk. AreTallied disk came) disks
   pub held_are : AreHeld dump told disks held
 
--- what these disks come to, of those of which it is held the dump has files, and their lines were
--- written
+-- what these disks come to, and their lines were written
 pub record HaveTold (dump : List ℕ) (told : Option (List File)) (came : List Seen)
-    (disks : List TalliedDisk) (held : List Bool) (lines lines' : Option (List ℕ))
+    (disks : List TalliedDisk) (lines lines' : Option (List ℕ))
     (best : Option Finding) : Type 0 where
   pub findings : List Finding
   pub of : candidates_in findings ≡ map candidate_in disks
-  pub has : map has_files findings ≡ held
   pub are : AreFindings dump told came findings
   pub grew : Appends lines lines' (lines_of findings)
   pub best_is : best ≡ best_of findings
 
 -- and that of the best behind them
 pub record HaveSaid (dump : List ℕ) (told : Option (List File)) (came : List Seen)
-    (disks : List TalliedDisk) (held : List Bool) (lines lines' : Option (List ℕ))
+    (disks : List TalliedDisk) (lines lines' : Option (List ℕ))
     (best : Option Finding) : Type 0 where
   pub findings : List Finding
   pub of : candidates_in findings ≡ map candidate_in disks
-  pub has : map has_files findings ≡ held
   pub are : AreFindings dump told came findings
   pub grew : Appends lines lines' (lines_of findings ++ best_text (best_of findings))
   pub best_is : best ≡ best_of findings

@@ -9,6 +9,6 @@ use Rattle.dump_identity.proofs.identifying.tell_all.Given as goal
 abbrev pub invariant-loop-number : goal.invariant-loop-number
 invariant-loop-number g l = record {
   told : (dump : List ℕ) (told : Option (List File)) (came : List Seen) → AreKnown dump told came l.passed l.disks l.held
-      → HaveTold dump told came (take l.number l.disks) (take l.number l.held) (g.W.Sink.written l.initial.lines) (g.W.Sink.written l.lines) l.best;
+      → HaveTold dump told came (take l.number l.disks) (g.W.Sink.written l.initial.lines) (g.W.Sink.written l.lines) l.best;
   counts : Counts false (sink_counts g.W.Sink l.initial.lines) (sink_counts g.W.Sink l.lines);
 }

@@ -1,7 +1,6 @@
-use Rattle.std.proofs.Common.{◌≡◌, ◌+◌, Bool, List, length, ap, arith, sym, ◌∙◌}
-use Rattle.std.specs.List.{list_any}
+use Rattle.std.proofs.Common.{◌≡◌, ◌+◌, Bool, List, length, ap, arith, ◌∙◌}
 use Rattle.std.proofs.lemmas.List.{length_push}
-use Rattle.dump_identity.proofs.Held.{any-next, held-next}
+use Rattle.dump_identity.proofs.Held.{held-next}
 use Rattle.dump_identity.proofs.reading.find_files.Goals as goal
 
 pub loop-number-init : goal.loop-number-init
@@ -9,7 +8,6 @@ loop-number-init g c = record {
   many = ap (λ (hs : List Bool). length hs) c.requires.none;
   room = c.requires.room;
   each = λ k d b low. absurd (omega (arith, low));
-  any = sym (ap (list_any (λ held. held)) c.requires.none);
 }
 
 pub loop-number-preserved : goal.loop-number-preserved
@@ -17,13 +15,12 @@ loop-number-preserved g c =
     let so_far = c.loop-number.invariant in
     let n = c.loop-number.number in
     let held = c.loop-number.held.items in
-    let here = c.has_files-here.result in
+    let here = c.has_files.result in
     let items = c.push_reserved.ensures.items in
     let long : length c.push_reserved.new.self.items ≡ length held + 1 = ap length items ∙ length_push held here in
     let many = so_far.many in record {
       many = omega (arith, long, many);
       room = (let capacity = c.push_reserved.ensures.capacity in let room = so_far.room in omega (arith, capacity, room));
       each = rw items (held-next c.args.dump.now (g.H.Shelf.files c.args.shelf.now) c.args.disks.now held n many here so_far.each c.index-disks-number.result c.loop-number-test.true c.index-disks-number.is
-          c.has_files-here.ensures);
-      any = rw items (any-next held here c.loop-number.any so_far.any);
+          c.has_files.ensures);
     }

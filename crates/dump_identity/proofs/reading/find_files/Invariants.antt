@@ -1,5 +1,4 @@
 use Rattle.std.proofs.Common.{◌≡◌, ◌<◌, ◌≤◌, ℕ, Bool, get_or, length}
-use Rattle.std.specs.List.{list_any}
 use Rattle.std.specs.Vec.{vec_capacity}
 use Rattle.dump_tallies.specs.Tallies.{TalliedDisk}
 use Rattle.dump_identity.specs.inside.Outcomes.{IsHeld}
@@ -10,5 +9,4 @@ invariant-loop-number g l = record {
   many : length l.held.items ≡ l.number;
   room : length l.disks ≤ vec_capacity l.held;
   each : (k : ℕ) (d : TalliedDisk) (b : Bool) → k < l.number → IsHeld l.dump (g.H.Shelf.files l.shelf) (get_or l.disks k d) (get_or l.held.items k b);
-  any : l.any ≡ list_any (λ held. held) l.held.items;
 }

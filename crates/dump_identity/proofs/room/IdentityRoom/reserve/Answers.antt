@@ -1,6 +1,5 @@
-use Rattle.std.proofs.Common.{◌∙◌}
+use Rattle.std.proofs.Common.{◌≡◌, ◌≤◌, ◌+◌, length, ap, arith, sym, ◌∙◌}
 use Rattle.std.proofs.lemmas.Grind.{common_steps}
-use Rattle.std.proofs.Common.{arith}
 use Rattle.dump_identity.proofs.Rooms.{trials-all, trials-more}
 use Rattle.dump_identity.proofs.room.IdentityRoom.reserve.Goals as goal
 
@@ -12,10 +11,14 @@ loop-format-preserved c =
 
 pub invariant_of-result : goal.invariant_of-result
 invariant_of-result c =
-    let at = c.loop-format in (
-      trials-all at.disks.items c.all_formats-format-items.result.now c.all_formats-format-items.ensures at.format-index c.loop-format-test.false at.invariant,
+    let at = c.loop-format in
+    (
+      c.in_ok-reserve.ensures.items
+          ∙ trials-all at.disks.items c.all_formats-format-items.result.now c.all_formats-format-items.ensures at.format-index c.loop-format-test.false at.invariant,
+      grind (arith, common_steps, c.in_ok-reserve.ensures.ok),
+      c.in_ok-spare.ensures,
       c.in_ok-held.ensures.items,
-      grind (arith, common_steps, c.in_ok-held.ensures.capacity),
+      grind (arith, common_steps, c.in_ok-reserve.ensures.ok, c.capacity.ensures, c.in_ok-held.ensures.capacity),
       c.in_ok-passed.ensures.items,
       grind (arith, common_steps, c.in_ok-passed.ensures.capacity),
     )
