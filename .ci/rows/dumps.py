@@ -119,6 +119,13 @@ def sectors():
         yield Row(f"show {words}", ["show", *words.split()], b"", 3, b"", USAGE, files=files)
 
 
+def named_disks():
+    # A folder in the place of a file of each dump, of a track that all disks have and of one that none has
+    for track in ("01.0", "99.1"):
+        files = {"a/track00.0.raw": SHORT, f"a/track{track}.raw": None}
+        yield Row(f"which disk a dump is of whose file {track} fails", ["identify", "a"], b"", 8, b"best none\n", b"", files=files)
+
+
 def rows():
-    for part in (whole_disks, lacking_dumps, contrary_dumps, sectors):
+    for part in (whole_disks, lacking_dumps, contrary_dumps, sectors, named_disks):
         yield from part()
