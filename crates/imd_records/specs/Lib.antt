@@ -1,3 +1,4 @@
 pub mod Modes
 pub mod Choices
+pub mod Records
 pub mod inside

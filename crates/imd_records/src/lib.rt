@@ -5,9 +5,11 @@
 mod books;
 mod choice;
 mod mode;
+mod record;
 mod rows;
 
 pub use books::TrackBooks;
 pub use choice::{Choice, choose};
 pub use mode::Mode;
+pub use record::{has_other_cylinder, write_record};
 pub use rows::{MOST_ROWS, fill_rows, is_row};
