@@ -88,12 +88,12 @@ module _ (told : Option (List File)) (dump bytes : List ℕ) (same : bytes ≡ d
   reached-told found of = reach-told told dump found (λ files known. subst (λ (d : List ℕ). IsReachOf files d found) same (of files known))
 
   pub reach-none : (found : Option Reach) (none : Bool) → is_some found ≡ not none → none ≡ true → Reached found → HasNoFiles dump told
-  reach-none None none is yes of = reached-told None of
-  reach-none (Some reach) none is yes of = absurd (not-both (is ∙ ap not yes))
+  reach-none None none is empty of = reached-told None of
+  reach-none (Some reach) none is empty of = absurd (not-both (is ∙ ap not empty))
 
   pub reach-some : (found : Option Reach) (none : Bool) → is_some found ≡ not none → none ≡ false → Reached found → HasSomeFile dump told
-  reach-some None none is no of = absurd (not-both (sym (is ∙ ap not no)))
-  reach-some (Some reach) none is no of = (reach, reached-told (Some reach) of)
+  reach-some None none is some of = absurd (not-both (sym (is ∙ ap not some)))
+  reach-some (Some reach) none is some of = (reach, reached-told (Some reach) of)
 
 abbrev pub trials_by : NumbersFound → List TalliedDisk
 trials_by numbers = map trial_of candidates ++ map trial_of (map by_numbers numbers.disks.items)
