@@ -131,10 +131,6 @@ pub(crate) fn push_numbered(
     for number in 0..told.len() {
         let disk = told[number];
         let room = spare.take_last();
-        disks.push_reserved(DiskTally::begin(
-            room,
-            disk.stepping,
-            Format::Numbered(disk.disk),
-        ));
+        disks.push_reserved(DiskTally::begin(room, disk.stepping, Format::Numbered(disk.disk)));
     }
 }

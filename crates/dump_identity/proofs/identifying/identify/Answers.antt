@@ -22,8 +22,12 @@ push_numbered-requires-clause-reached g c =
 
 pub find_files-requires-clause-room : goal.find_files-requires-clause-room
 find_files-requires-clause-room g c =
-    omega (arith, ap (λ (ds : List TalliedDisk). length ds) c.deref-2.ensures.value,
-    pushed-few _ _ _ c.push_numbered.ensures (omega (arith, ap (λ (ds : List NumberedDisk). length ds) c.deref.ensures.value, c.find_numbers-numbers.ensures.few)), c.room.invariant.4)
+    omega (
+      arith,
+      ap (λ (ds : List TalliedDisk). length ds) c.deref-2.ensures.value,
+      pushed-few _ _ _ c.push_numbered.ensures (omega (arith, ap (λ (ds : List NumberedDisk). length ds) c.deref.ensures.value, c.find_numbers-numbers.ensures.few)),
+      c.room.invariant.4,
+    )
 
 pub read_files-requires-clause-fresh : goal.read_files-requires-clause-fresh
 read_files-requires-clause-fresh g c =

@@ -11,8 +11,7 @@ loop-format-preserved c =
 
 pub invariant_of-result : goal.invariant_of-result
 invariant_of-result c =
-    let at = c.loop-format in
-    (
+    let at = c.loop-format in (
       c.in_ok-reserve.ensures.items
           ∙ trials-all at.disks.items c.all_formats-format-items.result.now c.all_formats-format-items.ensures at.format-index c.loop-format-test.false at.invariant,
       grind (arith, common_steps, c.in_ok-reserve.ensures.ok),
