@@ -1,15 +1,17 @@
 -- What `identify` did by what was said of the dump.
-use Rattle.std.specs.Prelude.{if◌then◌else◌}
-use Rattle.std.proofs.Common.{◌≡◌, ℕ, Bool, true, false, List, [], ◌∷◌, Option, Some, None, Result, Ok, Err, inl, inr, refl, sym, ap, ◌∙◌, subst}
+use Rattle.std.specs.Prelude.{if◌then◌else◌, ◌||◌, nat_lt}
+use Rattle.std.proofs.Common.{◌≡◌, ◌+◌, ◌++◌, arith, ℕ, Bool, true, false, List, [], ◌∷◌, Option, Some, None, Result, Ok, Err, inl, inr, refl, sym, ap, ◌∙◌, subst}
 use Rattle.dump_identity.specs.Findings.{identity_of, is_complete}
 use Rattle.dump_identity.specs.Laws.{IdentitiesAreOne, NoFilesAreNoIdentity}
-use Rattle.dump_identity.specs.Outcomes.{Identified, SaysOfIdentity}
+use Rattle.dump_identity.specs.Outcomes.{AllCame, Identified, SaysOfIdentity}
 use Rattle.dump_identity.specs.declared.finding.Finding.{Finding}
 use Rattle.dump_identity.specs.declared.identity.Identity.{Identity}
-use Rattle.dump_reading.specs.Files.{ShelfNow}
+use Rattle.dump_reading.specs.Files.{CountsMany, ShelfNow}
 use Rattle.dump_reading.specs.declared.fault.NoFiles.{NoFiles}
 use Rattle.flux_engine.specs.declared.fault.Stopped.{Stopped}
 use Rattle.flux_engine.specs.declared.fault.Stopped.TheVariants.{ReadFault, ImageFault, NotesFault, Refused}
+use Rattle.dump_reading.specs.lemmas.Coming.{counts-both, failed-both}
+use Rattle.track_shelf.specs.Told.{ShelfTold, with_failed}
 use Rattle.flux_base.specs.declared.status.Status.TheVariants.{AllGood, NotAllGood, ShelfFault}
 use Rattle.flux_engine.specs.LoopProgress.{lost_count}
 use Rattle.track_shelf.specs.Files.{File}
@@ -42,27 +44,51 @@ best_often (Some best) often none = often-either (is_complete best) often none
 identity_often : (identity : Identity) (often : ℕ) → FailsBy identity.failed often → FailsOften (identity_status identity) often
 identity_often identity often fails = often-if identity.failed (best_status identity.best) often fails (best_often identity.best often)
 
+-- one of two readings fails
+either-fails : (a : Bool) (often more : ℕ) → FailsBy a often → FailsBy (a || nat_lt 0 more) (often + more)
+either-fails true often more some = omega (arith, some)
+either-fails false often more none = subst (λ (n : ℕ). FailsBy (nat_lt 0 more) n) (omega (arith, none)) (fails-by more)
+
+-- What the shelf did as all files came twice: so many failed.
+record Lost (dump : List ℕ) (start now : ShelfNow) (files : AllCame dump start now) : Type 0 where
+  pub many : CountsMany (lost_count files.finds.came + lost_count files.came) start.counts now.counts
+  pub paths : List (List ℕ)
+  pub told : now.told ≡ with_failed paths start.told
+
+both-told : (start mid now : ShelfTold) (paths more : List (List ℕ)) → mid ≡ with_failed paths start → now ≡ with_failed more mid → now ≡ with_failed (paths ++ more) start
+both-told start mid now paths more first second = second ∙ ap (with_failed more) first ∙ failed-both paths more start
+
 module _ (dump : List ℕ) where
+  both-lost : (start now : ShelfNow) (files : AllCame dump start now) → Lost dump start now files
+  both-lost start now files = record {
+    many = counts-both (lost_count files.finds.came) (lost_count files.came) files.finds.have.counts files.have.counts;
+    paths = _;
+    told = both-told start.told files.between.told now.told _ _ files.finds.have.told files.have.told;
+  }
+
   pub identity-failed : (start now : ShelfNow) (lines lines' : Option (List ℕ)) (answer : Result Identity (Stopped NoFiles)) → SaysOfIdentity dump start now lines lines' answer
       → Failed identity_status start now answer
   identity-failed start now lines lines' (Ok identity) says =
       let files = says.is.files in
-      let often : ℕ = lost_count files.came in
-      let is : Identity = identity_of files.came says.is.findings in
+      let lost = both-lost start now files in
+      let often : ℕ = lost_count files.finds.came + lost_count files.came in
+      let is : Identity = identity_of files.numbers.failed files.came says.is.findings in
       let same : identity ≡ is = says.identity_is ∙ ap (λ (o : Identified). o.identity) says.is.is in
+      let first : FailsBy files.numbers.failed (lost_count files.finds.came) = subst (λ (b : Bool). FailsBy b (lost_count files.finds.came)) (sym files.finds.failed) (fails-by (lost_count files.finds.came)) in
       record {
         often = often;
-        fails = subst (λ (i : Identity). FailsOften (identity_status i) often) (sym same) (identity_often is often (fails-by often));
-        many = files.have.counts;
-        paths = _;
-        told = files.have.told;
+        fails = subst (λ (i : Identity). FailsOften (identity_status i) often) (sym same)
+            (identity_often is often (either-fails files.numbers.failed (lost_count files.finds.came) (lost_count files.came) first));
+        many = lost.many;
+        paths = lost.paths;
+        told = lost.told;
       }
   identity-failed start now lines lines' (Err (Refused empty)) says = still-failed identity_status start now empty says.2
   identity-failed start now lines lines' (Err ReadFault) never = absurd never
   identity-failed start now lines lines' (Err ImageFault) says =
       elim says [
-        | inl line ↦ (let files = line.files in record { often = lost_count files.came; fails = tt; many = files.have.counts; paths = _; told = files.have.told })
-        | inr best ↦ (let files = best.files in record { often = lost_count files.came; fails = tt; many = files.have.counts; paths = _; told = files.have.told })
+        | inl line ↦ (let lost = both-lost start now line.files in record { often = lost_count line.files.finds.came + lost_count line.files.came; fails = tt; many = lost.many; paths = lost.paths; told = lost.told })
+        | inr best ↦ (let lost = both-lost start now best.files in record { often = lost_count best.files.finds.came + lost_count best.files.came; fails = tt; many = lost.many; paths = lost.paths; told = lost.told })
       ]
   identity-failed start now lines lines' (Err NotesFault) says = absurd says
 
@@ -101,4 +127,4 @@ module _ (one : IdentitiesAreOne) (apart : NoFilesAreNoIdentity) (dump : List �
   one_outcome_of_dump a b (inl (line, p, is)) (inr (i, said, is')) alike = absurd (apart dump files start start' now' mine others i p.is said)
   one_outcome_of_dump a b (inr (i, said, is)) (inl (line, q, is')) alike = absurd (apart dump files start' start now others mine i q.is said)
   one_outcome_of_dump a b (inr (i, said, is)) (inr (j, other, is')) alike =
-      is ∙ ap identity_outcome (one dump files start now start' now' mine others i j said other alike) ∙ sym is'
+      is ∙ ap identity_outcome (one dump files start now start' now' mine others i j said other alike.0 alike.1) ∙ sym is'

@@ -1,4 +1,5 @@
--- What `identify` does: each file of a dump is read once on the shelf, as a track of each disk.
+-- What `identify` does: each file of a dump is read on the shelf once for the disks that its headers
+-- tell, and once more as a track of each disk.
 use Rattle.std.proofs.Common.{inr}
 use Rattle.std.specs.Prelude.{◌≡◌, ◌⊎◌, ℕ, List, [], if◌then◌else◌, Option, Some, None}
 use Rattle.dump_identity.specs.Findings.{is_complete}
@@ -26,7 +27,7 @@ identity_status identity = if identity.failed then ShelfFault else best_status i
 abbrev pub identity_outcome : Identified → Outcome
 identity_outcome o = record { status = identity_status o.identity; image = o.lines; notes = [] }
 
--- the dump has no file of any disk's tracks, and the line on it
+-- the dump has no file, and the line on it
 abbrev pub EmptyDump : (dump : List ℕ) → (start now : ShelfNow) → (line : List ℕ) → Type 0
 EmptyDump dump start now line = OneEmpty (HasNoFiles dump start.told.files) dump start now line
 
@@ -40,7 +41,8 @@ IsOutcomeOfDump dump start now o =
 abbrev pub FailedAsIdentified : (dump : List ℕ) (start now start' now' : ShelfNow) (a b : Outcome)
     → IsOutcomeOfDump dump start now a → IsOutcomeOfDump dump start' now' b → Type 0
 FailedAsIdentified dump start now start' now' a b (inr (i, is, same)) (inr (j, is', same')) =
-    FailedAlike is.files.came is'.files.came
+    FailedAlike is.files.finds.came is'.files.finds.came
+    × FailedAlike is.files.came is'.files.came
 FailedAsIdentified dump start now start' now' a b _ _ = Unit {0}
 
 -- what was written where a fault of a sink cut the work, by the status, which says whose it is

@@ -87,10 +87,10 @@ const IDENTIFY: Texts<&str> = Texts {
     line: "   identify DUMP                which disk a dump is of: what each format reads of it, and the best\n",
     usage: "usage: flux identify DUMP\n",
     about: "
-Reads a dump as a disk of each format that has a name, and of those of up to 42 cylinders also with --double-step. Each
-that has a good sector gets a line, in words that can stand behind read: how many sectors are good, and how many other names
-have data. The last line names the best: most bytes in good sectors, then fewest others, then fewest sectors. The exit code is
-0 where that is all of the dump.
+Reads a dump as a disk of each format that has a name, and as those IBM disks that its headers tell by their numbers; of up
+to 42 cylinders also with --double-step. Each that has a good sector gets a line, in words that can stand behind read: how
+many sectors are good, and how many other names have data. The last line names the best: most bytes in good sectors, then
+fewest others, then fewest sectors. The exit code is 0 where that is all of the dump.
 
 Example:
    flux identify dump
