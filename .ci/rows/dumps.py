@@ -1,4 +1,4 @@
-"""Disks that are read of the files of several dumps, their pictures, and single sectors of them."""
+"""Disks that are read of the files of several dumps, their pictures, single sectors of them, and which disk a dump is of."""
 from shared import SHORT, Disk, Row, counted, in_streams, revolutions, ring_of, track_file, written
 
 
@@ -124,6 +124,10 @@ def named_disks():
     for track in ("01.0", "99.1"):
         files = {"a/track00.0.raw": SHORT, f"a/track{track}.raw": None}
         yield Row(f"which disk a dump is of whose file {track} fails", ["identify", "a"], b"", 8, b"best none\n", b"", files=files)
+    # The last cylinder whose own name a disk may have, and the one behind it
+    yield Row("which disk cylinder 98 is of", ["identify", "a"], b"", 1, b"best none\n", b"", files={"a/track98.1.raw": SHORT})
+    yield Row("which disk cylinder 99 is of", ["identify", "a"], b"", 2, b"", b"refused dump 0 a has files of other tracks alone\n",
+              files={"a/track99.0.raw": SHORT})
 
 
 def rows():

@@ -52,4 +52,3 @@ def rows():
     yield named("two sizes", over(disk("mfm-dd-4x1x5x1024"), disk("mfm-dd-4x1x9x512@0"), (2, 0), (3, 0)), 1,
                 "mfm-dd-2x1x9x512@0 good 18 of 18 other 10", "mfm-dd-4x1x5x1024 good 10 of 20 other 18", "best mfm-dd-4x1x5x1024")
     yield named("cylinder 90 alone", alone(disk("mfm-dd-91x1x5x1024@0"), 90, 0), 1, "mfm-dd-91x1x5x1024@0 good 5 of 455 other 0", "best mfm-dd-91x1x5x1024@0")
-    yield Row("cylinder 99 alone, named", ["identify", "a"], b"", 2, b"", b"refused dump 0 a has files of other tracks alone\n", files={"a/track99.0.raw": b""})
