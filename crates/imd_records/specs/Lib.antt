@@ -1,4 +1,5 @@
 pub mod Modes
 pub mod Choices
 pub mod Records
+pub mod Lines
 pub mod inside

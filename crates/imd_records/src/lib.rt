@@ -4,12 +4,14 @@
 
 mod books;
 mod choice;
+mod lines;
 mod mode;
 mod record;
 mod rows;
 
 pub use books::TrackBooks;
 pub use choice::{Choice, choose};
+pub use lines::{left_line, lost_line, mode_line, more_line};
 pub use mode::Mode;
 pub use record::{has_other_cylinder, write_record};
 pub use rows::{MOST_ROWS, fill_rows, is_row};
