@@ -1,7 +1,7 @@
-ghost use Rattle.std.specs.Prelude.{◌≡◌, ◌<◌, ◌≤◌, ◌^◌, ◌+◌, ◌*◌, ◌++◌, ◌&&◌, ℕ, List, [], ◌∷◌, length, nat_le, nat_lt, All, false};
+ghost use Rattle.std.specs.Prelude.{◌≡◌, ◌<◌, ◌≤◌, ◌^◌, ◌+◌, ◌*◌, ◌++◌, ◌&&◌, ℕ, List, [], ◌∷◌, length, nat_le, nat_lt, All, OnOk, false};
 ghost use Rattle.flux_base.specs.Counts.{Counts};
 ghost use Rattle.flux_base.specs.World.{source_counts};
-ghost use Rattle.index_turns.specs.Track.{room_of_indexes, room_of_times};
+ghost use Rattle.index_turns.specs.Track.{KeepsRoom, room_of_indexes, room_of_times};
 ghost use Rattle.track_rings.specs.Rings.{last_in};
 ghost use Rattle.scp_files.specs.Captures.{Holds, MOST_REVOLUTIONS, ReadsRevolution, is_read_fault};
 ghost use Rattle.scp_files.specs.Streams.{Says};
@@ -85,12 +85,7 @@ impl Capture {
         ensures resolution { result.resolution ≡ resolution }
     {
         let mut flux = flux;
-        flux.clear();
-        match flux.push_index(0) {
-            Ok(()) => {}
-            // There is room.
-            Err(_) => unreachable!(),
-        }
+        begin_track(&mut flux);
         Capture {
             flux,
             resolution,
@@ -100,6 +95,20 @@ impl Capture {
             moment: 0,
             falls: false,
         }
+    }
+
+    /// Begins anew, by units of `resolution` + 1 times 25 ns: a capture of no revolution.
+    pub fn restart(&mut self, resolution: u8)
+        ensures holds { Holds [] [] self.new }
+        ensures resolution { self.new.resolution ≡ resolution }
+    {
+        begin_track(&mut self.flux);
+        self.resolution = resolution;
+        self.entries = 0;
+        self.units = 0;
+        self.revolutions = 0;
+        self.moment = 0;
+        self.falls = false;
     }
 
     /// Whether there is room for a revolution: a track has at most 255, of at most 4194304 entries together.
@@ -145,8 +154,13 @@ impl Capture {
     /// What the stream is that the capture stands for: one without a fault, whose times are those of `flux`; or a
     /// refused one.
     pub fn finish(&self) -> Result<(), CaptureRefused>
-        ensures { (values durations : List ℕ) → Holds values durations self.now
+        ensures says { (values durations : List ℕ) → Holds values durations self.now
             → Says self.now.resolution values durations self.now.flux result }
+
+        // So the times of a stream can be written.
+        ensures few { length self.now.flux.times + length self.now.flux.indexes ≤ 4194560 }
+        ensures early { OnOk result (All (λ time. time < 2 ^ 32) self.now.flux.times) }
+        ensures near { OnOk result (All (λ index. index < 2 ^ 32) self.now.flux.indexes) }
     {
         capture_law();
         if self.is_too_long() {
@@ -191,6 +205,7 @@ impl Capture {
     fn is_too_long(&self) -> bool
         ensures value { result ≡ is_too_long_at self.now }
         ensures early { result ≡ false → All (λ time. time < 2 ^ 32) self.now.flux.times }
+        ensures near { result ≡ false → All (λ index. index < 2 ^ 32) self.now.flux.indexes }
         ensures few { length self.now.flux.times ≤ MOST_ENTRIES }
         ensures turns { length self.now.flux.indexes ≤ 256 }
     {
@@ -299,5 +314,20 @@ impl Capture {
     {
         let indexes = self.flux.indexes();
         indexes[indexes.len() - 1]
+    }
+}
+
+/// Makes it the transitions and index times of a track of no revolution: none but the index at its begin.
+fn begin_track(flux: &mut TrackFlux)
+    requires indexes { 256 ≤ room_of_indexes flux.old }
+    ensures times { flux.new.times ≡ [] }
+    ensures indexes { flux.new.indexes ≡ 0 ∷ [] }
+    ensures room { KeepsRoom flux.old flux.new }
+{
+    flux.clear();
+    match flux.push_index(0) {
+        Ok(()) => {}
+        // There is room.
+        Err(_) => unreachable!(),
     }
 }

@@ -7,12 +7,12 @@ use Rattle.scp_files.proofs.Counting.{passed-all}
 use Rattle.scp_files.proofs.Finishing.{finish_none, finish_order, finish_reads, too_long-is, within}
 use Rattle.scp_files.proofs.capture.Capture.finish.Goals as goal
 
-pub returns-then-is_too_long : goal.returns-then-is_too_long
-returns-then-is_too_long c = λ values durations h.
+pub returns-then-is_too_long-clause-says : goal.returns-then-is_too_long-clause-says
+returns-then-is_too_long-clause-says c = λ values durations h.
     sym (too_long-is c.capture_law.ensures.size values durations _ h) ∙ sym c.is_too_long.ensures.value ∙ c.if-is_too_long.true
 
-pub returns-then-self : goal.returns-then-self
-returns-then-self c = λ values durations h.
+pub returns-then-self-clause-says : goal.returns-then-self-clause-says
+returns-then-self-clause-says c = λ values durations h.
     let s = c.args.self.now in
     let size = c.capture_law.ensures.size in
     let short : is_too_long_at s ≡ false = sym c.is_too_long.ensures.value ∙ c.if-is_too_long.false in
@@ -32,8 +32,8 @@ returns-then-self c = λ values durations h.
     ) in
     (within size values durations s h short order rising, finish_order size values durations s h short order rising c.capture_law.ensures.faults falls _ block)
 
-pub returns-then-indexes-lt2 : goal.returns-then-indexes-lt2
-returns-then-indexes-lt2 c = λ values durations h.
+pub returns-then-indexes-lt2-clause-says : goal.returns-then-indexes-lt2-clause-says
+returns-then-indexes-lt2-clause-says c = λ values durations h.
     let s = c.args.self.now in
     let size = c.capture_law.ensures.size in
     let short : is_too_long_at s ≡ false = sym c.is_too_long.ensures.value ∙ c.if-is_too_long.false in
@@ -59,8 +59,8 @@ returns-then-indexes-lt2 c = λ values durations h.
           (omega (arith, c.if-indexes-lt2.true, ap length indexes)) _ block,
     )
 
-pub returns : goal.returns
-returns c = λ values durations h.
+pub returns-clause-says : goal.returns-clause-says
+returns-clause-says c = λ values durations h.
     let s = c.args.self.now in
     let size = c.capture_law.ensures.size in
     let short : is_too_long_at s ≡ false = sym c.is_too_long.ensures.value ∙ c.if-is_too_long.false in
