@@ -101,8 +101,9 @@ COMMANDS = {
 }
 
 
-# What a program has whose `identify` tells disks by their numbers, too.
+# What a program has whose `identify` tells disks by their numbers, too; and those whose headers name other heads than the drive's.
 BY_NUMBERS = b"identify-numbers"
+OF_HEADS = b"identify-heads"
 
 
 def is_text(data):
@@ -248,7 +249,7 @@ def outcome(words, data, built, usage):
         steps, alone, form, k, sector, names = asked
         return plain_dumps.show(Dumps(Shelf(files), names, steps), form, k, sector, alone)
     if words[:1] == [b"identify"] and b"identify" in built and len(words) == 2 and words[1]:
-        return plain_identity.identify(Shelf(files), words[1], BY_NUMBERS in built)
+        return plain_identity.identify(Shelf(files), words[1], BY_NUMBERS in built, OF_HEADS in built)
     if words[:1] == [b"imd"] and b"imd" in built and (asked := disk_asked(words)):
         steps, names = asked
         return plain_imd.imd(Dumps(Shelf(files), names, steps))

@@ -162,9 +162,9 @@ def foreign_line(form, steps, heads):
     return "--double-step " * (steps - 1) + f"{form.word} names head {told}\n"
 
 
-def identify(shelf, name, numbers=True):
+def identify(shelf, name, numbers=True, others=True):
     """The outcome of `identify`: a line for each disk of which a sector is good, then one for each whose headers name other heads, and the
-    best of those that were read. Disks by numbers are among them where they are asked for."""
+    best of those that were read. Disks by numbers, and those of other heads, are among them where they are asked for."""
     lines, foreign, any_file, best = [], [], False, None
     disks = candidates()
     if numbers:
@@ -172,6 +172,8 @@ def identify(shelf, name, numbers=True):
         disks += disks_by_numbers(shelf, name)
     for form, steps, heads in disks:
         dumps, answer = Dumps(shelf, [name], steps, clocks=(0,)), DumpAnswer(form)
+        if heads != OWN and not others:
+            continue
         if heads != OWN:
             foreign.append(foreign_line(form, steps, heads))
         elif dumps.first_empty(form) is None:

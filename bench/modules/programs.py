@@ -88,7 +88,8 @@ def commands_of(program):
     offered = [word for word in PROBES if b"| " + word + b" " in usage]
     asked = {word: PROBES[word] for word in offered} | MORE_PROBES
     built = {word for word, rest in asked.items() if run(program, [*word.split(), *rest], b"")[0] != 3}
-    return usage, built | ({plain_commands.BY_NUMBERS} if tells_numbers(program) else set())
+    told = {plain_commands.BY_NUMBERS: tells_numbers, plain_commands.OF_HEADS: tells_heads}
+    return usage, built | {what for what, tells in told.items() if tells(program)}
 
 
 def tells_numbers(program):
@@ -96,3 +97,10 @@ def tells_numbers(program):
     form = plain.numbered("mfm-dd-1x1x1x128@7")
     stream = plain.stream_of(form.ring_of(bytes(128), 0), form.nominal(0))
     return b"mfm-dd-1x1x1x128@7" in run(program, [b"identify", b"dump"], {b"dump/track00.0.raw": stream})[1]
+
+
+def tells_heads(program):
+    """Whether it tells one whose headers name other heads than the drive's."""
+    form = plain.numbered("mfm-dd-1x1x1x128@7")
+    stream = plain.stream_of(form.ring_of(bytes(128), 0), form.nominal(0))
+    return b" names head 0" in run(program, [b"identify", b"dump"], {b"dump/track00.1.raw": stream})[1]
