@@ -6,7 +6,7 @@ import re
 
 from plain import Answer, as_controllers_read, controller_readings, turn_of, verdict_of
 from plain_map import Picture
-from plain_streams import Refused, Stream, recovered
+from plain_streams import Refused, file_stream, recovered
 
 MOST_DUMPS = 8
 MOST_TOLD = 64
@@ -154,7 +154,7 @@ class Dumps:
                 if content is None:
                     passed.append(f"dump {number} missing")
                 else:
-                    streams.append((number, Stream(content, 0)))
+                    streams.append((number, file_stream(content)))
             except Failed:
                 passed.append(f"dump {number} failed")
             except Refused as stop:

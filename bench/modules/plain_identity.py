@@ -2,7 +2,7 @@
 from plain import FORMATS, RATES, numbered
 from plain_dumps import MOST_CYLINDERS, MOST_DOUBLE_CYLINDERS, DumpAnswer, Dumps, Failed, no_files_line, path_of, reaches_all, read_tracks
 from plain_recordings import IbmFm, IbmMfm, places_of
-from plain_streams import Refused, Stream, recovered
+from plain_streams import Refused, file_stream, recovered
 
 # files whose cylinder and head a disk by numbers may have
 MOST_OWN_CYLINDERS = 99
@@ -32,7 +32,7 @@ def file_streams(shelf, dump):
             try:
                 content = shelf.read(path_of(dump, cylinder, head))
                 if content is not None:
-                    streams[cylinder, head] = Stream(content, 0)
+                    streams[cylinder, head] = file_stream(content)
             except (Failed, Refused):
                 pass
     return streams

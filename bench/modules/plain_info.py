@@ -1,6 +1,6 @@
 """What the files of a dump tell without any format, off the definitions: how many bytes, transitions and turns each has, and how fast it turned."""
 from plain_dumps import Dumps, Failed, all_tracks, no_files_line, path_of
-from plain_streams import Refused, Stream
+from plain_streams import Refused, file_stream
 
 MOST_CYLINDERS = 99
 # 168192000 sevenths of a tick are a second
@@ -36,7 +36,7 @@ def read_file(shelf, path):
         content = shelf.read(path)
         if content is None:
             return "missing", None
-        stream = Stream(content, 0)
+        stream = file_stream(content)
         return file_line(content, stream), mean_of(stream)
     except Failed:
         return "failed", None

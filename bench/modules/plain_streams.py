@@ -3,6 +3,7 @@
 A stream's blocks are one list, and cells are a text of 0 and 1.
 """
 import bisect
+import functools
 import itertools
 import operator
 import struct
@@ -150,6 +151,7 @@ def counts(times, ends, first):
 RUNS = ["0" * (n - 1) + "1" for n in range(33)]
 
 
+@functools.lru_cache(400)
 def recovered(stream, nominal, ring_cells, clock=0):
     """The cells by clock 0, or by clock 1, whose band has the first period as both its ends."""
     ends = 3 * nominal // 4, 5 * nominal // 4
@@ -157,6 +159,12 @@ def recovered(stream, nominal, ring_cells, clock=0):
     if not stream.times:
         return ""
     return "1" + "".join([RUNS[n] for n in counts(stream.times, (ends, (first, first))[clock], first)])
+
+
+@functools.lru_cache(200)
+def file_stream(content):
+    """The stream at the begin of a file, which is read once, however often it is asked for."""
+    return Stream(content, 0)
 
 
 # Written streams
