@@ -24,7 +24,9 @@ pub struct TrackPlace {
     pub revolutions: u8,
 }
 
-/// Reads a track into a capture that is begun. Why it is not whole, if it is not.
+/// Reads a track into a capture that is begun: its revolutions up to the first without entries. Why the track is not
+/// whole, if it is not; the revolutions before the one that is not whole are in the capture then. Where there is no such
+/// file, it is a short track. `Failed` comes where the shelf's count of faults rose. No memory is taken.
 pub fn read_track<H: Shelf>(
     path: &[u8],
     place: TrackPlace,
