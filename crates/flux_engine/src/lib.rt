@@ -11,6 +11,7 @@
 #![tactic(auto)]
 
 mod capture;
+mod cell_reader;
 mod disk_streams;
 mod fault;
 mod gathered_track;
@@ -37,6 +38,7 @@ pub use capture::{
     bytes, end_track, read_by_clocks, read_stream, recover_cells, room_format, room_gathered,
     start_track, verdict,
 };
+pub use cell_reader::CellReader;
 pub use disk_recordings::{Sectors, sectors_of};
 pub use disk_streams::{fill, write_disk};
 pub use fault::{RefusedCapture, Stopped};

@@ -3,6 +3,7 @@
 ghost use Rattle.std.specs.Prelude.{◌≡◌, ◌≤◌, ◌<◌, ◌+◌};
 ghost use Rattle.cell_bits.specs.State.{room};
 ghost use Rattle.sector_images.specs.Places.{IsTrack};
+ghost use Rattle.sector_report.specs.declared.dump_lines.Passed.{Passed as OfPassed};
 ghost use Rattle.turn_merge.specs.Book.{MOST_NOTES};
 ghost use Rattle.turn_merge.specs.declared.clock.Clock.TheVariants.{Following};
 ghost use Rattle.flux_engine.specs.Gathering.{AreCellsOf, HasNotedBy};
@@ -17,6 +18,7 @@ ghost use Rattle.flux_engine.specs.declared.plan.Clocks.TheVariants.{FollowingAl
 ghost use Rattle.flux_engine.specs.declared.plan.Rule.TheVariants.{Controller};
 
 use crate::capture::{clock_start, note_in_cells, recover_from};
+use crate::cell_reader::CellReader;
 use crate::gathered_track::Gathered;
 use crate::names::{NamedStreams, names_in_cells};
 use crate::plan::Rule;
@@ -74,7 +76,8 @@ impl Model for SharedStream {
 }
 
 impl SharedStream {
-    ghost use Rattle.std.specs.Prelude.{None};
+    ghost use Rattle.std.specs.Prelude.{None, Some, IfNone, IfSome};
+    ghost use Rattle.flux_engine.specs.Recordings.{cells_of};
     ghost use Rattle.flux_engine.specs.Tallies.{IsFewTally, IsNameTallyOf, IsTallyOf};
 
     /// Takes all memory that reading any stream needs. At first there is none.
@@ -117,6 +120,29 @@ impl SharedStream {
         match self.next {
             NextStream::Read => None,
             NextStream::PassedOver(why) => Some(why),
+        }
+    }
+
+    /// What is read in the cells that are recovered of it as of this track of a format. None where it is passed over.
+    pub fn read_cells<C: CellReader<R>, R>(
+        &mut self,
+        format: Format,
+        track: TrackId,
+        reader: &C,
+    ) -> Option<R>
+        requires track { IsTrack format track }
+        ensures read { IfSome result (λ r. (self.old.passed ≡ None)
+            × C.reads reader.now self.old.times self.old.indexes
+            (cells_of format track self.old.times self.old.indexes) r) }
+        ensures passed { IfNone result ((why : OfPassed) × (self.old.passed ≡ Some why)) }
+        ensures stream { self.new ≡ self.old }
+    {
+        match self.next {
+            NextStream::Read => {
+                recover_shared(format, track, self.stream.flux(), &mut self.recovered);
+                Some(reader.read(self.stream.flux(), &self.recovered.cells))
+            }
+            NextStream::PassedOver(_) => None,
         }
     }
 
