@@ -15,3 +15,4 @@ pub use foreign::{ForeignDisk, TrackSets, push_foreign};
 pub use heads::NamedHeads;
 pub use laws::{foreign_disks_are_one, told_disks_are_one};
 pub use name_set::NameSet;
+pub use told::has_any;

@@ -7,7 +7,7 @@ use ibm_disks::SectorSize;
 use std::marker::Model;
 
 /// A set of sector numbers for each size of a sector: those of the names of a track that have whole data.
-#[derive(Drop)]
+#[derive(Clone, Copy)]
 pub struct NameSet {
     /// By the code of the size and then by the number.
     bits: [bool; 1024],
@@ -19,6 +19,8 @@ impl Model for NameSet {
     ghost Value = { List Bool };
 
     ghost view = { λ set. set.bits };
+
+    ghost inverse = { λ bits. record { bits = bits } };
 
     ghost invariant = { λ set. length set.bits ≡ 1024 };
 }

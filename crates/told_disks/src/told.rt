@@ -66,7 +66,7 @@ pub(crate) fn reaches(sets: &[NameSet], size: SectorSize) -> bool
 }
 
 /// Whether a set has a number of a size.
-pub(crate) fn has_any(set: &NameSet, size: SectorSize) -> bool
+pub fn has_any(set: &NameSet, size: SectorSize) -> bool
     ensures yes { IsTrue result → HasAny set.now size }
     ensures no { result ≡ false → HasAny set.now size → ⊥ }
 {
