@@ -1,5 +1,6 @@
 pub mod OneSector
 pub mod Walks
+pub mod Others
 pub mod Turns
 pub mod Noting
 pub mod ByRates

@@ -1,6 +1,6 @@
 -- The files of a dump decide which disks they tell.
-use Rattle.std.proofs.Common.{◌≡◌, ◌<◌, ◌+◌, ◌*◌, ◌/◌, ◌%◌, ◌∙◌, ◌&&◌, ℕ, zero, suc, Bool, true, false, List, [], ◌∷◌, ◌++◌, Option, Some, None, get_or, length, refl, sym, ap, subst, inl, inr, arith}
-use Rattle.std.specs.Prelude.{flat_map, nat_lt}
+use Rattle.std.proofs.Common.{◌≡◌, ◌<◌, ◌≤◌, ◌+◌, ◌*◌, ◌/◌, ◌%◌, ◌∙◌, ◌&&◌, ℕ, zero, suc, Bool, true, false, List, [], ◌∷◌, ◌++◌, Option, Some, None, get_or, length, refl, sym, ap, subst, inl, inr, arith}
+use Rattle.std.specs.Prelude.{flat_map}
 use Rattle.std.proofs.lemmas.Bool.{lt-ltb}
 use Rattle.std.proofs.lemmas.List.{ext_get_or}
 use Rattle.flux_base.specs.declared.track.TrackId.{TrackId}
@@ -12,16 +12,18 @@ use Rattle.ibm_disks.specs.declared.sector_size.SectorSize.{SectorSize}
 use Rattle.ibm_disks.specs.declared.sector_size.SectorSize.TheVariants.{Bytes128, Bytes256, Bytes512, Bytes1024}
 use Rattle.kryo_stream.specs.Stream.{first_fault}
 use Rattle.kryo_stream.specs.declared.fault.StreamFault.{StreamFault}
-use Rattle.sector_report.specs.declared.dump_lines.Passed.TheVariants.{Failed}
 use Rattle.track_shelf.specs.Files.{File, file_at}
 use Rattle.track_shelf.specs.declared.stepping.Stepping.TheVariants.{Single}
-use Rattle.dump_reading.specs.DumpStreams.{FailedAlike, HaveComeOf, IsOrFailed, passed_over, path_in, seen_of, seen_unless}
-use Rattle.dump_reading.specs.Files.{ShelfNow}
+use Rattle.dump_reading.specs.DumpStreams.{AreOfDumps, FailedAlike, IsOrFailed, path_in, seen_of, seen_unless}
 use Rattle.told_disks.specs.Disks.{AreToldDisks}
-use Rattle.told_disks.specs.Laws.{ToldDisksAreOne}
-use Rattle.told_disks.specs.Names.{has}
+use Rattle.told_disks.specs.Foreign.{AreForeignDisks}
+use Rattle.told_disks.specs.Laws.{ForeignDisksAreOne, ToldDisksAreOne}
+use Rattle.told_disks.specs.Names.{has, set_at}
 use Rattle.told_disks.specs.declared.disks.NumberedDisk.{NumberedDisk}
-use Rattle.dump_numbers.specs.Found.{AreByNumbers, FindsDisks, files_of}
+use Rattle.told_disks.specs.declared.foreign.ForeignDisk.{ForeignDisk}
+use Rattle.told_disks.specs.declared.heads.NamedHeads.{NamedHeads}
+use Rattle.told_disks.specs.declared.heads.NamedHeads.TheVariants.{Changed, First, Own}
+use Rattle.dump_numbers.specs.Found.{AreByNumbers, AreForeign, files_of}
 use Rattle.dump_numbers.specs.Laws.{NumbersAreOne}
 use Rattle.dump_numbers.specs.Rates.{rates}
 use Rattle.dump_numbers.specs.Sets.{AreSetsOf, IsSetOf, double_file, track_number}
@@ -53,8 +55,8 @@ same_bool false true there back = back refl
 same_bool false false there back = refl
 
 -- a file has one set
-one_set : (rate : Rate) (here : Seen) (own : TrackId) (a b : List Bool) → IsSetOf rate here own a → IsSetOf rate here own b → a ≡ b
-one_set rate here own a b x y = ext_get_or false a b (x.full ∙ sym y.full) each
+one_set : (heads : NamedHeads) (rate : Rate) (here : Seen) (own : TrackId) (a b : List Bool) → IsSetOf heads rate here own a → IsSetOf heads rate here own b → a ≡ b
+one_set heads rate here own a b x y = ext_get_or false a b (x.full ∙ sym y.full) each
   where
     each : (i : ℕ) → i < length a → get_or a i false ≡ get_or b i false
     each i low =
@@ -64,18 +66,18 @@ one_set rate here own a b x y = ext_get_or false a b (x.full ∙ sym y.full) eac
         let few : number < 256 = omega arith in
         let at : 256 * code_of size + number ≡ i = ap (λ (c : ℕ). 256 * c + number) (code_is (i / 256) (omega (arith, low, full))) ∙ omega arith in
         ap (λ (k : ℕ). get_or a k false) (sym at) ∙ sym (bit_is a size number few)
-        ∙ same_bool (has a size number) (has b size number) (λ is. (y.has_own size number).1 ((x.has_own size number).0 is)) (λ is. (x.has_own size number).1 ((y.has_own size number).0 is))
+        ∙ same_bool (has a size number) (has b size number) (λ is. (y.has_named size number).1 ((x.has_named size number).0 is)) (λ is. (x.has_named size number).1 ((y.has_named size number).0 is))
         ∙ bit_is b size number few ∙ ap (λ (k : ℕ). get_or b k false) at
 
 -- so a dump has one list of them by each step
-module _ (rate : Rate) (came : List Seen) (one two one' two' : List (List Bool)) (x : AreSetsOf rate came one two) (y : AreSetsOf rate came one' two') where
+module _ (heads : NamedHeads) (rate : Rate) (came : List Seen) (one two one' two' : List (List Bool)) (x : AreSetsOf heads rate came one two) (y : AreSetsOf heads rate came one' two') where
   same_one : one ≡ one'
   same_one =
       let many = x.all_one in
       ext_get_or [] one one' (x.all_one ∙ sym y.all_one)
       (λ i low.
       let few : i < 198 = omega (arith, low, many) in
-      one_set rate (seen_at came i) (track_number i) (get_or one i []) (get_or one' i []) (x.one_step i few) (y.one_step i few))
+      one_set heads rate (seen_at came i) (track_number i) (get_or one i []) (get_or one' i []) (x.one_step i few) (y.one_step i few))
 
   same_two : two ≡ two'
   same_two =
@@ -83,7 +85,7 @@ module _ (rate : Rate) (came : List Seen) (one two one' two' : List (List Bool))
       ext_get_or [] two two' (x.all_two ∙ sym y.all_two)
       (λ i low.
       let few : i < 84 = omega (arith, low, many) in
-      one_set rate (seen_at came (double_file i)) (track_number i) (get_or two i []) (get_or two' i []) (x.two_steps i few) (y.two_steps i few))
+      one_set heads rate (seen_at came (double_file i)) (track_number i) (get_or two i []) (get_or two' i []) (x.two_steps i few) (y.two_steps i few))
 
 -- a list by two functions that agree
 flat_agree : {X Y : Type 0} (f g : X → List Y) → ((x : X) → f x ≡ g x) → (xs : List X) → flat_map f xs ≡ flat_map g xs
@@ -97,9 +99,25 @@ one_told told came a b x y = x.are ∙ flat_agree x.by_rate y.by_rate each rates
     each : (rate : Rate) → x.by_rate rate ≡ y.by_rate rate
     each rate =
         told rate (x.one rate) (x.two rate) (x.by_rate rate) (y.by_rate rate) (x.told rate)
-        (subst (λ (one : List (List Bool)). AreToldDisks rate one (x.two rate) (y.by_rate rate)) (sym (same_one rate came (x.one rate) (x.two rate) (y.one rate) (y.two rate) (x.sets rate) (y.sets rate)))
-        (subst (λ (two : List (List Bool)). AreToldDisks rate (y.one rate) two (y.by_rate rate)) (sym (same_two rate came (x.one rate) (x.two rate) (y.one rate) (y.two rate) (x.sets rate) (y.sets rate)))
+        (subst (λ (one : List (List Bool)). AreToldDisks rate one (x.two rate) (y.by_rate rate)) (sym (same_one Own rate came (x.one rate) (x.two rate) (y.one rate) (y.two rate) (x.sets rate) (y.sets rate)))
+        (subst (λ (two : List (List Bool)). AreToldDisks rate (y.one rate) two (y.by_rate rate)) (sym (same_two Own rate came (x.one rate) (x.two rate) (y.one rate) (y.two rate) (x.sets rate) (y.sets rate)))
         (y.told rate)))
+
+-- and one of those whose headers name other heads
+one_foreign : ForeignDisksAreOne → (came : List Seen) (a b : List ForeignDisk) → AreForeign came a → AreForeign came b → a ≡ b
+one_foreign told came a b x y = x.are ∙ flat_agree x.by_rate y.by_rate each rates ∙ sym y.are
+  where
+    each : (rate : Rate) → x.by_rate rate ≡ y.by_rate rate
+    each rate =
+        let first_one = same_one First rate came (x.first_one rate) (x.first_two rate) (y.first_one rate) (y.first_two rate) (x.first rate) (y.first rate) in
+        let first_two = same_two First rate came (x.first_one rate) (x.first_two rate) (y.first_one rate) (y.first_two rate) (x.first rate) (y.first rate) in
+        let changed_one = same_one Changed rate came (x.changed_one rate) (x.changed_two rate) (y.changed_one rate) (y.changed_two rate) (x.changed rate) (y.changed rate) in
+        let changed_two = same_two Changed rate came (x.changed_one rate) (x.changed_two rate) (y.changed_one rate) (y.changed_two rate) (x.changed rate) (y.changed rate) in
+        told rate (x.first_one rate) (x.first_two rate) (x.changed_one rate) (x.changed_two rate) (x.by_rate rate) (y.by_rate rate) (x.told rate)
+        (subst (λ (one : List (List Bool)). AreForeignDisks rate one (x.first_two rate) (x.changed_one rate) (x.changed_two rate) (y.by_rate rate)) (sym first_one)
+        (subst (λ (two : List (List Bool)). AreForeignDisks rate (y.first_one rate) two (x.changed_one rate) (x.changed_two rate) (y.by_rate rate)) (sym first_two)
+        (subst (λ (one : List (List Bool)). AreForeignDisks rate (y.first_one rate) (y.first_two rate) one (x.changed_two rate) (y.by_rate rate)) (sym changed_one)
+        (subst (λ (two : List (List Bool)). AreForeignDisks rate (y.first_one rate) (y.first_two rate) (y.changed_one rate) two (y.by_rate rate)) (sym changed_two) (y.told rate)))))
 
 -- what a file says is not that it failed
 not_failed : (file : Option File) → is_failed (seen_of file).passed ≡ false
@@ -129,22 +147,55 @@ abbrev no_seen : Seen
 no_seen = record { fault = None; passed = None; times = []; indexes = [] }
 
 -- the same came of the same files
-one_came : (dump : List ℕ) (files : List File) (start now start' now' : ShelfNow) (came came' : List Seen) → start.told.files ≡ Some files → start'.told.files ≡ Some files
-    → length came ≡ 198 → length came' ≡ 198 → HaveComeOf (files_of dump) start now came → HaveComeOf (files_of dump) start' now' came' → FailedAlike came came' → came ≡ came'
-one_came dump files start now start' now' came came' known known' all all' have have' alike = ext_get_or no_seen came came' (all ∙ sym all') each
-  where
-    each : (i : ℕ) → i < length came → seen_at came i ≡ seen_at came' i
-    each i low =
-        let at : i * 1 + 0 ≡ i = omega arith in
-        let file : Option File = file_at files (path_in Single (dump ∷ []) (track_number i) 0) in
-        let one : IsOrFailed (seen_at came i) (seen_of file) =
-        subst (λ (k : ℕ). IsOrFailed (seen_at came k) (seen_of file)) at (have.are files known i 0 (omega arith) (omega arith) (omega (arith, low))) in
-        let other : IsOrFailed (seen_at came' i) (seen_of file) =
-        subst (λ (k : ℕ). IsOrFailed (seen_at came' k) (seen_of file)) at (have'.are files known' i 0 (omega arith) (omega arith) (omega (arith, low, all, all'))) in
-        settled (seen_at came i) (seen_at came' i) (seen_of file) (not_failed file) one other (alike i low (omega (arith, low, all, all')))
+module _ (dump : List ℕ) (files : List File) (told told' : Option (List File)) (known : told ≡ Some files) (known' : told' ≡ Some files) (came came' : List Seen) (all : 198 ≤ length came)
+    (all' : 198 ≤ length came') (have : AreOfDumps (files_of dump) told came) (have' : AreOfDumps (files_of dump) told' came') (alike : FailedAlike came came') where
+  one_seen : (number : ℕ) → number < 198 → seen_at came' number ≡ seen_at came number
+  one_seen i low =
+      let at : i * 1 + 0 ≡ i = omega arith in
+      let file : Option File = file_at files (path_in Single (dump ∷ []) (track_number i) 0) in
+      let one : IsOrFailed (seen_at came i) (seen_of file) =
+      subst (λ (k : ℕ). IsOrFailed (seen_at came k) (seen_of file)) at (have files known i 0 (omega arith) (omega arith) (omega (arith, low, all))) in
+      let other : IsOrFailed (seen_at came' i) (seen_of file) =
+      subst (λ (k : ℕ). IsOrFailed (seen_at came' k) (seen_of file)) at (have' files known' i 0 (omega arith) (omega arith) (omega (arith, low, all'))) in
+      sym (settled (seen_at came i) (seen_at came' i) (seen_of file) (not_failed file) one other (alike i (omega (arith, low, all)) (omega (arith, low, all'))))
 
-pub numbers_one : ToldDisksAreOne → NumbersAreOne
-numbers_one told dump files start now start' now' known known' a b one other alike =
-    one_told told one.came a.disks.items b.disks.items one.by_numbers
-    (subst (λ (came : List Seen). AreByNumbers came b.disks.items)
-    (sym (one_came dump files start now start' now' one.came other.came known known' one.all other.all one.have other.have alike)) other.by_numbers)
+  -- so their sets are the same
+  over : (heads : NamedHeads) (rate : Rate) (one two : List (List Bool)) → AreSetsOf heads rate came' one two → AreSetsOf heads rate came one two
+  over heads rate one two are = record {
+    all_one = are.all_one;
+    all_two = are.all_two;
+    one_step = λ number low. subst (λ (s : Seen). IsSetOf heads rate s (track_number number) (set_at one number)) (one_seen number low) (are.one_step number low);
+    two_steps = λ number low.
+        subst (λ (s : Seen). IsSetOf heads rate s (track_number number) (set_at two number)) (one_seen (double_file number) (omega (arith, low))) (are.two_steps number low);
+  }
+
+  numbers_over : (disks : List NumberedDisk) → AreByNumbers came' disks → AreByNumbers came disks
+  numbers_over disks are = record {
+    one = are.one;
+    two = are.two;
+    sets = λ rate. over Own rate (are.one rate) (are.two rate) (are.sets rate);
+    by_rate = are.by_rate;
+    told = are.told;
+    are = are.are;
+  }
+
+  foreign_over : (disks : List ForeignDisk) → AreForeign came' disks → AreForeign came disks
+  foreign_over disks are = record {
+    first_one = are.first_one;
+    first_two = are.first_two;
+    first = λ rate. over First rate (are.first_one rate) (are.first_two rate) (are.first rate);
+    changed_one = are.changed_one;
+    changed_two = are.changed_two;
+    changed = λ rate. over Changed rate (are.changed_one rate) (are.changed_two rate) (are.changed rate);
+    by_rate = are.by_rate;
+    told = are.told;
+    are = are.are;
+  }
+
+pub numbers_one : ToldDisksAreOne → ForeignDisksAreOne → NumbersAreOne
+numbers_one numbers foreign dump files told told' known known' came came' all all' have have' alike a b one other = (
+  one_told numbers came a.disks.items b.disks.items one.by_numbers
+      (numbers_over dump files told told' known known' came came' all all' have have' alike b.disks.items other.by_numbers),
+  one_foreign foreign came a.foreign.items b.foreign.items one.foreign
+      (foreign_over dump files told told' known known' came came' all all' have have' alike b.foreign.items other.foreign),
+)

@@ -23,7 +23,8 @@ use Rattle.told_disks.specs.declared.disks.NumberedDisk.{NumberedDisk}
 use Rattle.told_disks.specs.declared.heads.NamedHeads.TheVariants.{Own}
 use Rattle.dump_numbers.specs.Rates.{rates}
 use Rattle.dump_numbers.specs.declared.sets.DumpSets.{DumpSets}
-use Rattle.dump_numbers.specs.inside.Noted.{AreTold, IsComplete, sets_by}
+use Rattle.dump_numbers.specs.inside.Noted.{AreEven, AreTold, sets_by}
+use Rattle.dump_numbers.proofs.ByRates.{few_sets}
 
 -- no set has no number
 has_none : (size : SectorSize) (number : ℕ) → has [] size number ≡ false
@@ -67,7 +68,7 @@ module _ (names : NumbersNameTracks) where
   abbrev Reaches : NumberedDisk → Type 0
   Reaches disk = reaches_all disk.stepping (Numbered disk.disk) ≡ true
 
-  reached_one : (rate : Rate) (size : SectorSize) (stepping : Stepping) (one two : List (List Bool)) (disk : NumberedDisk) → length two ≡ 84
+  reached_one : (rate : Rate) (size : SectorSize) (stepping : Stepping) (one two : List (List Bool)) (disk : NumberedDisk) → length two ≤ 84
       → IsToldDisk Own rate size stepping one two disk → Reaches disk
   reached_one rate size stepping one two disk many is =
       subst (λ (s : Stepping). reaches_all s (Numbered disk.disk) ≡ true) (sym is.stepping_is) (by stepping is)
@@ -81,7 +82,7 @@ module _ (names : NumbersNameTracks) where
           let cylinders = told.is.cylinders in
           reaches_double (Numbered disk.disk) (omega (arith, there, last, cylinders, many))
 
-  reached_if : (rate : Rate) (size : SectorSize) (stepping : Stepping) (one two : List (List Bool)) → length two ≡ 84 → (disk : Option NumberedDisk)
+  reached_if : (rate : Rate) (size : SectorSize) (stepping : Stepping) (one two : List (List Bool)) → length two ≤ 84 → (disk : Option NumberedDisk)
       → IsToldIf Own rate size stepping one two disk → All Reaches (option_to_list disk)
   reached_if rate size stepping one two many None none = λ k d low. absurd (omega (arith, low))
   reached_if rate size stepping one two many (Some disk) is = alone
@@ -90,14 +91,14 @@ module _ (names : NumbersNameTracks) where
       alone zero d low = reached_one rate size stepping one two disk many is
       alone (suc k) d low = absurd (omega (arith, low))
 
-  reached_by_rate : (rate : Rate) (one two : List (List Bool)) (disks : List NumberedDisk) → length two ≡ 84 → AreToldDisks rate one two disks → All Reaches disks
+  reached_by_rate : (rate : Rate) (one two : List (List Bool)) (disks : List NumberedDisk) → length two ≤ 84 → AreToldDisks rate one two disks → All Reaches disks
   reached_by_rate rate one two disks many are =
       subst (All Reaches) (sym are.are)
       (all_flat Reaches (λ kind. option_to_list (are.each kind.0 kind.1))
       (λ kind. reached_if rate kind.0 kind.1 one two many (are.each kind.0 kind.1) (are.told kind.0 kind.1)) kinds)
 
-  pub all_reached : (sets : DumpSets) (disks : List NumberedDisk) → ((rate : Rate) → IsComplete (sets_by sets rate)) → AreTold sets disks → All Reaches disks
-  all_reached sets disks complete told =
+  pub all_reached : (sets : DumpSets) (disks : List NumberedDisk) → AreEven sets → AreTold sets disks → All Reaches disks
+  all_reached sets disks even told =
       subst (All Reaches) (sym told.are)
       (all_flat Reaches told.by_rate
-      (λ rate. reached_by_rate rate (sets_by sets rate).one.items (sets_by sets rate).two.items (told.by_rate rate) (complete rate).two (told.told rate)) rates)
+      (λ rate. reached_by_rate rate (sets_by sets rate Own).one.items (sets_by sets rate Own).two.items (told.by_rate rate) (few_sets sets even rate Own).two (told.told rate)) rates)

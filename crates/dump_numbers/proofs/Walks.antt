@@ -17,7 +17,7 @@ use Rattle.dump_numbers.specs.Rates.{format_with_one}
 use Rattle.dump_numbers.specs.inside.Walked.{AddsName, IsAdded, name_of}
 
 -- a code is one size's
-one_code : (a b : SectorSize) → code_of a ≡ code_of b → a ≡ b
+pub one_code : (a b : SectorSize) → code_of a ≡ code_of b → a ≡ b
 one_code Bytes128 Bytes128 same = refl
 one_code Bytes128 Bytes256 same = absurd (omega (arith, same))
 one_code Bytes128 Bytes512 same = absurd (omega (arith, same))

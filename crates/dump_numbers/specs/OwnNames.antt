@@ -1,5 +1,5 @@
 -- The own names of a track that have whole data, by a rate.
-use Rattle.std.specs.Prelude.{◌≡◌, ◌<◌, ℕ, Bool, true, List, drop}
+use Rattle.std.specs.Prelude.{◌≡◌, ◌<◌, ◌⊎◌, ◌-◌, ℕ, Bool, true, List, drop}
 use Rattle.disk_recordings.specs.Members.{data_at, named_at}
 use Rattle.flux_base.specs.declared.header_name.HeaderName.TheVariants.{Address}
 use Rattle.flux_base.specs.declared.track.TrackId.{TrackId}
@@ -7,6 +7,8 @@ use Rattle.ibm_disks.specs.Numbers.{code_of}
 use Rattle.ibm_disks.specs.declared.rate.Rate.{Rate}
 use Rattle.ibm_disks.specs.declared.sector_size.SectorSize.{SectorSize}
 use Rattle.ibm_disks.specs.declared.sector_size.SectorSize.TheVariants.{Bytes128}
+use Rattle.told_disks.specs.declared.heads.NamedHeads.{NamedHeads}
+use Rattle.told_disks.specs.declared.heads.NamedHeads.TheVariants.{Changed, First, Own}
 use Rattle.dump_numbers.specs.Rates.{format_with_one}
 use Rattle.dump_numbers.specs.TurnRule.{is_of_rate}
 
@@ -34,3 +36,25 @@ pub record HasName (rate : Rate) (own : TrackId) (times indexes : List ℕ) (cel
   pub named : named_at (format_with_one rate Bytes128) (drop place cells)
       (Address own.cylinder own.head number (code_of size))
   pub whole : HasWholeAt rate times indexes cells size place
+
+-- the track of the other of two heads on this cylinder
+abbrev pub other_head : TrackId → TrackId
+other_head track = record { cylinder = track.cylinder; head = 1 - track.head }
+
+-- A name of the other head, where none of its size is of this track.
+pub record HasOtherName (rate : Rate) (own : TrackId) (times indexes : List ℕ) (cells : List Bool)
+    (size : SectorSize) (number : ℕ) : Type 0 where
+  pub named : HasName rate (other_head own) times indexes cells size number
+  pub alone : (n : ℕ) → HasName rate own times indexes cells size n → ⊥
+
+-- A name as a disk's headers name the heads: the drive's own; on each the other one; or the first
+-- on both.
+abbrev pub HasNameAt : NamedHeads → Rate → (own : TrackId) → (times indexes : List ℕ)
+    → (cells : List Bool) → SectorSize → (number : ℕ) → Type 0
+HasNameAt Own rate own times indexes cells size number =
+    HasName rate own times indexes cells size number
+HasNameAt Changed rate own times indexes cells size number =
+    HasOtherName rate own times indexes cells size number
+HasNameAt First rate own times indexes cells size number =
+    ((own.head ≡ 0) × HasName rate own times indexes cells size number)
+    ⊎ ((0 < own.head) × HasOtherName rate own times indexes cells size number)

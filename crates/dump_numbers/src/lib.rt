@@ -1,8 +1,10 @@
-//! Which disks by their numbers the files of a dump tell: each file is read once, by each rate that such a disk may
-//! have, and of each the sector numbers of its own names with whole data are kept.
+//! Which disks by their numbers the files of a dump tell: the stream of each file is read by each rate that such a disk
+//! may have, and of each the sector numbers of its own names with whole data are kept, and of those that name another
+//! head.
 #![tactic(auto)]
 
 mod finding;
+mod heads;
 mod laws;
 mod names;
 mod rates;
@@ -10,8 +12,8 @@ mod room;
 mod sets;
 mod turn_rule;
 
-pub use finding::{NumbersFound, find_numbers};
+pub use finding::{NumbersFound, find_disks};
 pub use laws::numbers_are_one;
 pub use rates::{disk_with_one, recording_with_one};
 pub use room::NumbersRoom;
-pub use told_disks::NumberedDisk;
+pub use told_disks::{ForeignDisk, NumberedDisk};

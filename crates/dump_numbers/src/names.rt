@@ -6,7 +6,7 @@ ghost use Rattle.flux_engine.specs.Gathering.{AreCellsOf};
 ghost use Rattle.ibm_disks.specs.Numbers.{code_of};
 ghost use Rattle.ibm_disks.specs.declared.sector_size.SectorSize.{SectorSize as Size};
 ghost use Rattle.told_disks.specs.Names.{has};
-ghost use Rattle.dump_numbers.specs.OwnNames.{HasDataOf, HasName, HasWholeAt};
+ghost use Rattle.dump_numbers.specs.OwnNames.{HasDataOf, HasName, HasWholeAt, other_head};
 ghost use Rattle.dump_numbers.specs.inside.Walked.{AddsName};
 
 use crate::rates::recording_with_one;
@@ -20,24 +20,43 @@ use ibm_disks::{Rate, SectorSize};
 use index_turns::TrackFlux;
 use told_disks::NameSet;
 
-/// The sector numbers, by their sizes, of the names that tell this cylinder and this head and have whole data of the
-/// rate, in the cells that were recovered by it.
-pub(crate) fn own_names(rate: Rate, own: TrackId, flux: &TrackFlux, cells: &Cells) -> NameSet
+/// The sector numbers, by their sizes, of a track's names that have whole data.
+#[derive(Drop)]
+pub(crate) struct TrackNames {
+    /// Of those that tell the track's cylinder and head.
+    pub own: NameSet,
+    /// Of those that tell its cylinder and the other head.
+    pub other: NameSet,
+}
+
+/// The names with whole data of the rate, in the cells that were recovered by it.
+pub(crate) fn track_names(rate: Rate, own: TrackId, flux: &TrackFlux, cells: &Cells) -> TrackNames
     requires turns { 2 ≤ length flux.now.indexes }
     requires cells { AreCellsOf flux.now.times cells.now.cells }
-    ensures full { length result ≡ 1024 }
-    ensures has { (size : Size) (number : ℕ) → (has result size number ≡ true)
+    ensures full { (length result.own ≡ 1024) × (length result.other ≡ 1024) }
+    ensures own { (size : Size) (number : ℕ) → (has result.own size number ≡ true)
         ↔ HasName rate own flux.now.times flux.now.indexes cells.now.cells size number }
+    ensures other { (size : Size) (number : ℕ) → (has result.other size number ≡ true)
+        ↔ HasName rate (other_head own) flux.now.times flux.now.indexes cells.now.cells size number }
 {
     headers_have_names();
     let recording = recording_with_one(rate, SectorSize::Bytes128);
+    let across = TrackId {
+        cylinder: own.cylinder,
+        head: 1u8.saturating_sub(own.head),
+    };
     let mut names = NameSet::empty();
+    let mut others = NameSet::empty();
     let mut from = 0;
     while let Some((place, name)) = next_name(&recording, cells, from) {
         note_name(rate, own, flux, cells, place, name, &mut names);
+        note_name(rate, across, flux, cells, place, name, &mut others);
         from = place + 1;
     }
-    names
+    TrackNames {
+        own: names,
+        other: others,
+    }
 }
 
 /// Adds the sector number of a header that stands at a place, where its name is an own one and has whole data.

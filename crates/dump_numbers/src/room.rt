@@ -1,17 +1,15 @@
 //! The memory for finding disks by numbers.
 
 ghost use Rattle.std.specs.Prelude.{IfOk};
-ghost use Rattle.dump_numbers.specs.inside.Noted.{AreEmptySets, IsEmptySets};
+ghost use Rattle.told_disks.specs.declared.heads.NamedHeads.{NamedHeads};
+ghost use Rattle.dump_numbers.specs.inside.Noted.{HoldAll, HoldsFiles, sets_at};
 
-use crate::sets::{DumpSets, RateSets, Tools};
-use cell_bits::Cells;
-use flux_base::Memory;
-use flux_engine::MOST_CELLS;
-use kryo_stream::StreamRoom;
-use phase_loop::Loop;
+use crate::sets::{DumpSets, HeadSets, RateSets, note_sets};
+use flux_base::{Memory, TrackId};
+use flux_engine::SharedStream;
 use std::alloc::Global;
 use std::marker::Model;
-use told_disks::NumberedDisk;
+use told_disks::{ForeignDisk, NumberedDisk};
 
 /// The most files, of 99 cylinders and two heads, and of 42 cylinders.
 const MOST_FILES: usize = 198;
@@ -21,66 +19,97 @@ const MOST_DOUBLE_TRACKS: usize = 84;
 /// The most disks: of five rates, each with four sizes by two steps.
 const MOST_DISKS: usize = 40;
 
-/// All memory that finding the disks by numbers takes that a dump may be of, less than 128 MiB. It serves once.
+/// All memory that finding the disks by numbers takes that a dump may be of, less than 5 MiB, and the sets of sector
+/// numbers of the files that were noted. It serves once.
 #[derive(Drop)]
 pub struct NumbersRoom {
-    pub(crate) stream: StreamRoom,
-    pub(crate) tools: Tools,
     pub(crate) sets: DumpSets,
     pub(crate) disks: Vec<NumberedDisk>,
+    pub(crate) foreign: Vec<ForeignDisk>,
 }
 
 impl Model for NumbersRoom {
     ghost use Rattle.std.specs.Prelude.{◌≡◌, ◌≤◌, []};
     ghost use Rattle.std.specs.Vec.{vec_capacity};
-    ghost use Rattle.cell_bits.specs.State.{room as room_in};
-    ghost use Rattle.flux_engine.specs.Room.{MOST_CELLS};
-    ghost use Rattle.dump_numbers.specs.inside.Noted.{AreEmptySets};
+    ghost use Rattle.dump_numbers.specs.Sets.{NotedSets};
+    ghost use Rattle.dump_numbers.specs.inside.Noted.{AreEven, kept_in};
 
-    ghost Value = { Unit {0} };
+    ghost Value = { NotedSets };
 
-    ghost view = { λ room. record {} };
+    ghost view = { λ room. kept_in room.sets };
 
-    ghost invariant = { λ room. (MOST_CELLS ≤ room_in room.tools.cells) × AreEmptySets room.sets
-        × (room.disks.items ≡ []) × (40 ≤ vec_capacity room.disks) };
+    ghost invariant = { λ room. AreEven room.sets
+        × ((room.disks.items ≡ []) × (40 ≤ vec_capacity room.disks))
+        × ((room.foreign.items ≡ []) × (40 ≤ vec_capacity room.foreign)) };
 }
 
 impl NumbersRoom {
-    /// Takes it.
-    pub fn reserve(alloc: Global) -> Result<NumbersRoom, Memory> {
-        let stream = StreamRoom::reserve(alloc)?;
-        let clock = Loop::new(alloc)?;
-        let mut cells = Cells::new(alloc);
-        cells.reserve(MOST_CELLS)?;
-        let sets = DumpSets::reserve(alloc)?;
+    ghost use Rattle.std.specs.Prelude.{◌≡◌, [], ◌∷◌, ◌++◌, List};
+    ghost use Rattle.flux_engine.specs.Plans.{Seen};
+    ghost use Rattle.dump_numbers.specs.Sets.{AreNotedTo};
+
+    /// Takes it. No file is noted.
+    pub fn reserve(alloc: Global) -> Result<NumbersRoom, Memory>
+        ensures { IfOk result (λ room. AreNotedTo [] room) }
+    {
         Ok(NumbersRoom {
-            stream,
-            tools: Tools { clock, cells },
-            sets,
+            sets: DumpSets::reserve(alloc)?,
             disks: Vec::with_capacity(alloc, MOST_DISKS)?,
+            foreign: Vec::with_capacity(alloc, MOST_DISKS)?,
         })
+    }
+
+    /// Notes the stream of the next file: cylinder by cylinder, head by head. One that is passed over tells nothing,
+    /// nor does any behind the 198th. No memory is taken.
+    pub fn note_file(&mut self, stream: &mut SharedStream)
+        ensures noted { (came : List Seen) → AreNotedTo came self.old
+            → AreNotedTo (came ++ stream.old ∷ []) self.new }
+        ensures stream { stream.new ≡ stream.old }
+    {
+        let number = self.sets.dd.own.one.len();
+        if number >= MOST_FILES {
+            return;
+        }
+        let file = TrackId {
+            cylinder: (number / 2) as u8,
+            head: (number % 2) as u8,
+        };
+        note_sets(file, stream, &mut self.sets);
     }
 }
 
 impl DumpSets {
     /// Takes the memory for the sets of all files.
     fn reserve(alloc: Global) -> Result<DumpSets, Memory>
-        ensures { IfOk result AreEmptySets }
+        ensures { IfOk result (HoldAll 0) }
     {
         Ok(DumpSets {
-            dd: RateSets::reserve(alloc)?,
-            hd: RateSets::reserve(alloc)?,
-            hd360: RateSets::reserve(alloc)?,
-            sd: RateSets::reserve(alloc)?,
-            sd8: RateSets::reserve(alloc)?,
+            dd: HeadSets::reserve(alloc)?,
+            hd: HeadSets::reserve(alloc)?,
+            hd360: HeadSets::reserve(alloc)?,
+            sd: HeadSets::reserve(alloc)?,
+            sd8: HeadSets::reserve(alloc)?,
+        })
+    }
+}
+
+impl HeadSets {
+    /// Takes the memory for those by a rate.
+    fn reserve(alloc: Global) -> Result<HeadSets, Memory>
+        ensures { IfOk result (λ sets. (heads : NamedHeads) → HoldsFiles 0 (sets_at sets heads)) }
+    {
+        Ok(HeadSets {
+            own: RateSets::reserve(alloc)?,
+            first: RateSets::reserve(alloc)?,
+            changed: RateSets::reserve(alloc)?,
         })
     }
 }
 
 impl RateSets {
-    /// Takes the memory for the sets of all files by a rate.
+    /// Takes the memory for those by what headers name.
     fn reserve(alloc: Global) -> Result<RateSets, Memory>
-        ensures { IfOk result IsEmptySets }
+        ensures { IfOk result (HoldsFiles 0) }
     {
         Ok(RateSets {
             one: Vec::with_capacity(alloc, MOST_FILES)?,

@@ -1,24 +1,25 @@
 use Rattle.std.proofs.Common.{◌≡◌, ap, length, arith}
 use Rattle.ibm_disks.specs.declared.rate.Rate.TheVariants.{Double, High, HighAt360, Single, SingleAt360}
+use Rattle.told_disks.specs.declared.heads.NamedHeads.TheVariants.{Own}
 use Rattle.dump_numbers.specs.inside.Noted.{AreTold}
-use Rattle.dump_numbers.proofs.ByRates.{all_rates, appended}
+use Rattle.dump_numbers.proofs.ByRates.{all_rates, appended, few_sets}
 use Rattle.dump_numbers.proofs.Reached.{all_reached}
 use Rattle.dump_numbers.proofs.finding.push_all.Goals as goal
 
-pub push_rate-requires-clause-complete : goal.push_rate-requires-clause-complete
-push_rate-requires-clause-complete c = c.requires.many Double
+pub push_rate-requires-clause-sets : goal.push_rate-requires-clause-sets
+push_rate-requires-clause-sets c = few_sets c.args.sets.now c.requires.even Double Own
 
-pub push_rate-requires-2-clause-complete : goal.push_rate-requires-2-clause-complete
-push_rate-requires-2-clause-complete c = c.requires.many High
+pub push_rate-requires-2-clause-sets : goal.push_rate-requires-2-clause-sets
+push_rate-requires-2-clause-sets c = few_sets c.args.sets.now c.requires.even High Own
 
-pub push_rate-requires-3-clause-complete : goal.push_rate-requires-3-clause-complete
-push_rate-requires-3-clause-complete c = c.requires.many HighAt360
+pub push_rate-requires-3-clause-sets : goal.push_rate-requires-3-clause-sets
+push_rate-requires-3-clause-sets c = few_sets c.args.sets.now c.requires.even HighAt360 Own
 
-pub push_rate-requires-4-clause-complete : goal.push_rate-requires-4-clause-complete
-push_rate-requires-4-clause-complete c = c.requires.many Single
+pub push_rate-requires-4-clause-sets : goal.push_rate-requires-4-clause-sets
+push_rate-requires-4-clause-sets c = few_sets c.args.sets.now c.requires.even Single Own
 
-pub push_rate-requires-5-clause-complete : goal.push_rate-requires-5-clause-complete
-push_rate-requires-5-clause-complete c = c.requires.many SingleAt360
+pub push_rate-requires-5-clause-sets : goal.push_rate-requires-5-clause-sets
+push_rate-requires-5-clause-sets c = few_sets c.args.sets.now c.requires.even SingleAt360 Own
 
 all_told : (c : goal.After-push_rate-5) → AreTold c.args.sets.now c.push_rate-5.new.disks.items
 all_told c =
@@ -35,7 +36,7 @@ pub returns-clause-told : goal.returns-clause-told
 returns-clause-told c = all_told c
 
 pub returns-clause-reached : goal.returns-clause-reached
-returns-clause-reached c = all_reached c.sectors_lie_in_images.ensures.numbers c.args.sets.now c.push_rate-5.new.disks.items c.requires.many (all_told c)
+returns-clause-reached c = all_reached c.sectors_lie_in_images.ensures.numbers c.args.sets.now c.push_rate-5.new.disks.items c.requires.even (all_told c)
 
 pub returns-clause-few : goal.returns-clause-few
 returns-clause-few c =
