@@ -1,0 +1,11 @@
+pub mod OneSector
+pub mod Recorded
+pub mod Counting
+pub mod Told
+pub mod Listed
+pub mod Tracks
+pub mod Streams
+pub mod Ways
+pub mod Turns
+pub mod RateOf
+pub mod Found
