@@ -60,7 +60,7 @@ erased_only laws dump files disk image n is known c =
     (only_own laws disk.disk n c.stream (laws.no_others.erased (Numbered disk.disk) image c.stream n is known c.capture))
 
 -- none of some streams failed
-none_of : (came : List Seen) → lost_count came ≡ 0 → (i : ℕ) → i < length came → is_failed (seen_at came i).passed ≡ false
+pub none_of : (came : List Seen) → lost_count came ≡ 0 → (i : ℕ) → i < length came → is_failed (seen_at came i).passed ≡ false
 none_of [] none i low = absurd (omega (arith, low))
 none_of (s ∷ came) none i low = by (is_failed s.passed) refl (none_of came) i low
   where

@@ -9,3 +9,4 @@ pub mod Ways
 pub mod Turns
 pub mod RateOf
 pub mod Found
+pub mod Called

@@ -1,5 +1,6 @@
 //! What is found of a dump whose files capture an image of a disk by its numbers.
 
+ghost use Rattle.law_numbered_dumps.specs.Called.{CapturedDumpsAreCalledGood};
 ghost use Rattle.law_numbered_dumps.specs.Headline.{CapturedDisksAreFound, ErasedFilesHaveNoOtherSector};
 ghost use Rattle.law_numbered_dumps.specs.Headline.{PassedFilesHaveNoSector, QuartersOfDisksAreFound};
 
@@ -7,9 +8,10 @@ use disk_recordings::{
     DiskRecording, headers_have_names, rewritten_tracks_are_read, rewritten_tracks_have_only_own,
     tracks_have_rings,
 };
-use flux_engine::captures_are_recovered;
+use flux_engine::{captures_are_recovered, plans_are_right};
 use kryo_stream::growth_law;
 use law_captured_disks::captures_have_no_others;
+use law_captured_dumps::captured_dumps_are_read;
 use law_decoded_rings::own_sectors_are_right;
 use sector_images::sectors_lie_in_images;
 
@@ -33,4 +35,13 @@ pub fn captured_disks_are_found()
     captures_are_recovered();
     captures_have_no_others();
     sectors_lie_in_images()
+}
+
+/// Reading a dump as the disk that it captures, of any format and by its drive's steps, comes to numbers that call
+/// every sector good, where no file failed and the drive kept its speed.
+pub fn captured_dumps_are_called_good()
+    ensures { CapturedDumpsAreCalledGood }
+{
+    captured_dumps_are_read();
+    plans_are_right()
 }
