@@ -3,7 +3,7 @@ use Rattle.std.proofs.Common.{◌≡◌, ℕ, false, List, [], ◌∷◌, Option
 use Rattle.flux_base.specs.declared.status.Status.{Status}
 use Rattle.flux_help.specs.Verbs.{verb_of}
 use Rattle.flux_help.specs.declared.verb.Verb.{Verb}
-use Rattle.flux_help.specs.declared.verb.Verb.TheVariants.{Identify, Info, Read, Show, DecodeFolder, DecodeSet, Rescue, Decode, Report, Map, Write, Split, Turns, ToG64, FromG64, Trial, Help}
+use Rattle.flux_help.specs.declared.verb.Verb.TheVariants.{Identify, Imd, Info, Read, Show, DecodeFolder, DecodeSet, Rescue, Decode, Report, Map, Write, Split, Turns, ToG64, FromG64, Trial, Help}
 use Rattle.flux_words.specs.Asked.{Asked}
 use Rattle.flux_words.specs.CommandWords.{AreBehind, AreByVerb, AreWordsOf, AskFor, AskOnce}
 use Rattle.flux_words.specs.SectorWords.{ArePlaceWords, AskedSector}
@@ -36,6 +36,7 @@ module _ (others : List (List ℕ)) (asked : Asked) where
   keeps_behind Show p = subst Keeps (sym p.2) (placed p.0 p.1.rest p.1.are)
   keeps_behind Identify p = subst Keeps (sym p.2) tt
   keeps_behind Info p = subst Keeps (sym p.2) tt
+  keeps_behind Imd p = subst Keeps (sym p.2) p.1.named
   keeps_behind Write (inl p) = subst Keeps (sym p.2) tt
   keeps_behind Write (inr p) = subst Keeps (sym p.4) p.3.is_folder
   keeps_behind Split p = subst Keeps (sym p.6) tt
@@ -58,6 +59,7 @@ module _ (others : List (List ℕ)) (asked : Asked) where
   over_behind Show p = ap over_dumps (sym p.2)
   over_behind Identify p = ap over_dumps (sym p.2)
   over_behind Info p = ap over_dumps (sym p.2)
+  over_behind Imd p = ap over_dumps (sym p.2)
   over_behind Write (inl p) = ap over_dumps (sym p.2)
   over_behind Write (inr p) = ap over_dumps (sym p.4)
   over_behind Split p = ap over_dumps (sym p.6)
@@ -80,6 +82,7 @@ module _ (others : List (List ℕ)) (asked : Asked) where
   files_behind Show p = ap asks_files (sym p.2)
   files_behind Identify p = ap asks_files (sym p.2)
   files_behind Info p = ap asks_files (sym p.2)
+  files_behind Imd p = ap asks_files (sym p.2)
   files_behind Write (inl p) = ap (verb_asks_files (Some Write)) p.1.1 ∙ ap asks_files (sym p.2)
   files_behind Write (inr p) = ap (verb_asks_files (Some Write)) p.2.1 ∙ ap asks_files (sym p.4)
   files_behind Split p = ap asks_files (sym p.6)

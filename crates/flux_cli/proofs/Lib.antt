@@ -15,6 +15,7 @@ pub mod ShelfEnded
 pub mod ReadRun
 pub mod IdentityRun
 pub mod InfoRun
+pub mod ImdRun
 pub mod SectorRun
 pub mod ReadHeadline
 pub mod Often

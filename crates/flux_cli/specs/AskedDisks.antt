@@ -7,9 +7,11 @@ use Rattle.dump_reading.specs.declared.looks.Looks.TheVariants.{Always}
 use Rattle.flux_engine.specs.declared.plan.Clocks.TheVariants.{Both}
 use Rattle.sector_images.specs.Places.{IsSector, tracks}
 use Rattle.track_shelf.specs.Names.{names_file}
-use Rattle.flux_words.specs.Asked.{Asked, some_streams, some_dumps, a_sector, written_files}
+use Rattle.flux_words.specs.Asked.{Asked, some_streams, some_dumps, a_sector, an_imd_file}
+use Rattle.flux_words.specs.Asked.{written_files}
 use Rattle.flux_words.specs.Counts.{IsManyCaptures}
 use Rattle.flux_words.specs.DumpWords.{AskedDumps, CanBeRead}
+use Rattle.flux_words.specs.ImdWords.{AreNamed}
 use Rattle.flux_words.specs.SectorWords.{AskedSector, CanBeShown}
 use Rattle.flux_words.specs.declared.commands.Way.{Way}
 use Rattle.flux_words.specs.declared.commands.Way.TheVariants.{Often}
@@ -44,5 +46,6 @@ abbrev pub Keeps : Asked → Type 0
 Keeps (some_streams asked) = IsFew asked.way
 Keeps (some_dumps asked) = CanBeRead asked
 Keeps (a_sector asked) = IsPlaced asked
+Keeps (an_imd_file asked) = AreNamed asked.dumps
 Keeps (written_files format folder) = names_file folder ≡ false
 Keeps _ = Unit {0}

@@ -9,10 +9,10 @@ use Rattle.flux_base.specs.declared.status.Status.TheVariants.{ReadFault, ImageF
 use Rattle.flux_base.specs.declared.status.Status.TheVariants.{ShelfFault}
 use Rattle.flux_help.specs.Verbs.{verb_of}
 use Rattle.flux_help.specs.declared.verb.Verb.{Verb}
-use Rattle.flux_help.specs.declared.verb.Verb.TheVariants.{Identify, Info, Read, Show, Write}
+use Rattle.flux_help.specs.declared.verb.Verb.TheVariants.{Identify, Imd, Info, Read, Show, Write}
 use Rattle.flux_help.specs.declared.verb.Verb.TheVariants.{Split}
 use Rattle.flux_words.specs.Asked.{Asked, some_dumps, a_sector, an_identity, told_files}
-use Rattle.flux_words.specs.Asked.{written_files, split_streams}
+use Rattle.flux_words.specs.Asked.{an_imd_file, written_files, split_streams}
 use Rattle.flux_cli.specs.World.{World}
 
 abbrev pub source_blame : Status → Blame
@@ -33,6 +33,7 @@ abbrev pub over_dumps : Asked → Bool
 over_dumps (some_dumps asked) = true
 over_dumps (an_identity dump) = true
 over_dumps (told_files dump) = true
+over_dumps (an_imd_file asked) = true
 over_dumps (a_sector asked) = true
 over_dumps _ = false
 
@@ -40,6 +41,7 @@ abbrev pub verb_over_dumps : Option Verb → Bool
 verb_over_dumps (Some Read) = true
 verb_over_dumps (Some Identify) = true
 verb_over_dumps (Some Info) = true
+verb_over_dumps (Some Imd) = true
 verb_over_dumps (Some Show) = true
 verb_over_dumps _ = false
 

@@ -19,6 +19,7 @@ pub mod ReadRuns
 pub mod SectorRuns
 pub mod IdentityRuns
 pub mod InfoRuns
+pub mod ImdRuns
 pub mod Endings
 pub mod MakingWork
 pub mod FilesTold

@@ -9,7 +9,7 @@ use Rattle.flux_engine.specs.declared.plan.Plan.{Plan}
 use Rattle.sector_images.specs.declared.format.Format.{Format}
 use Rattle.flux_words.specs.Asked.{Asked, the_turns, some_streams, a_folder, some_dumps, a_sector}
 use Rattle.flux_words.specs.Asked.{an_identity, told_files, written_streams, a_trial, a_g64_file}
-use Rattle.flux_words.specs.Asked.{an_image_of_g64, a_page}
+use Rattle.flux_words.specs.Asked.{an_image_of_g64, an_imd_file, a_page}
 use Rattle.flux_words.specs.Asked.{written_files, split_streams}
 use Rattle.flux_words.specs.CommandWords.{AskFor}
 use Rattle.flux_words.specs.declared.commands.Way.{Way}
@@ -17,6 +17,7 @@ use Rattle.flux_words.specs.declared.commands.Way.TheVariants.{Once, Often, ByBo
 use Rattle.flux_cli.specs.AskedDisks.{asked_disk, shown_sector}
 use Rattle.flux_cli.specs.BytesWork.{BytesWork}
 use Rattle.flux_cli.specs.IdentityRuns.{identity_work}
+use Rattle.flux_cli.specs.ImdRuns.{imd_work}
 use Rattle.flux_cli.specs.InfoRuns.{info_work}
 use Rattle.flux_cli.specs.ReadRuns.{read_work}
 use Rattle.flux_cli.specs.SectorRuns.{sector_work}
@@ -80,6 +81,8 @@ row_of (some_dumps asked) = with_files (read_work asked.shown (asked_disk asked)
 row_of (a_sector asked) = with_files (sector_work (shown_sector asked))
 row_of (an_identity dump) = with_files (identity_work dump)
 row_of (told_files dump) = with_files (info_work dump)
+row_of (an_imd_file asked) =
+    with_files (imd_work (record { stepping = asked.stepping; names = asked.dumps }))
 row_of (written_streams format) = with_bytes (write_work format)
 row_of (written_files format folder) = with_maker (files_work format folder)
 row_of (split_streams folder heads) = with_maker (split_work folder heads)

@@ -174,7 +174,7 @@ pub(crate) fn end_of_file<N: Sink>(
 
 /// Ends what was asked of dumps and was not done, or not all. Of the first dump that has none of the wanted
 /// files the notes say what is there.
-fn end_of_fault<H: Shelf, N: Sink>(
+pub(crate) fn end_of_fault<H: Shelf, N: Sink>(
     fault: Stopped<NoFiles>,
     dumps: &[Word],
     shelf: &H,

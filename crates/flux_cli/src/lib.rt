@@ -8,6 +8,7 @@ mod files;
 mod files_told;
 mod folder;
 mod identity;
+mod imd;
 mod laws;
 mod output_told;
 mod planned;

@@ -124,6 +124,7 @@ fn run_words<S: Source, W: Sink, N: Sink, H: Shelf, M: FileMaker>(
             alloc, source, image, notes, shelf, maker,
         ),
         Some(Command::Info(dump)) => Info { dump }.run(alloc, source, image, notes, shelf, maker),
+        Some(Command::Imd(asked)) => asked.run(alloc, source, image, notes, shelf, maker),
         Some(Command::WriteFiles(format, folder)) => {
             WriteFiles { format, folder }.run(alloc, source, image, notes, shelf, maker)
         }

@@ -4,25 +4,26 @@ use Rattle.std.specs.Prelude.{ℕ, List, [], ◌∷◌, Bool, true, false, codes
 use Rattle.std.specs.List.{position_from, slice_get}
 use Rattle.std.specs.Option.{option_and_then}
 use Rattle.std.specs.Str.{bytes_eq}
-use Rattle.flux_help.specs.declared.verb.TheConstants.{IDENTIFY, INFO, READ, SHOW, DECODE_FOLDER}
+use Rattle.flux_help.specs.declared.verb.TheConstants.{IDENTIFY, IMD, INFO, READ, SHOW, DECODE_FOLDER}
 use Rattle.flux_help.specs.declared.verb.TheConstants.{DECODE_SET, RESCUE, DECODE, REPORT, MAP}
 use Rattle.flux_help.specs.declared.verb.TheConstants.{WRITE, SPLIT, TURNS, TO_G64, FROM_G64, TRIAL, HELP}
 use Rattle.flux_help.specs.declared.verb.Texts.{Texts}
 use Rattle.flux_help.specs.declared.verb.Verb.{Verb}
-use Rattle.flux_help.specs.declared.verb.Verb.TheVariants.{Identify, Info, Read, Show, DecodeFolder}
+use Rattle.flux_help.specs.declared.verb.Verb.TheVariants.{Identify, Imd, Info, Read, Show, DecodeFolder}
 use Rattle.flux_help.specs.declared.verb.Verb.TheVariants.{DecodeSet, Rescue, Decode, Report, Map}
 use Rattle.flux_help.specs.declared.verb.Verb.TheVariants.{Write, Split, Turns, ToG64, FromG64, Trial}
 use Rattle.flux_help.specs.declared.verb.Verb.TheVariants.{Help}
 
 -- all commands, in the order in which the help lists them
 abbrev pub verbs : List Verb
-verbs = Identify ∷ Info ∷ Read ∷ Show ∷ DecodeFolder ∷ DecodeSet ∷ Rescue ∷ Decode ∷ Report ∷ Map
-    ∷ Write ∷ Split ∷ Turns ∷ ToG64 ∷ FromG64 ∷ Trial ∷ Help ∷ []
+verbs = Identify ∷ Info ∷ Imd ∷ Read ∷ Show ∷ DecodeFolder ∷ DecodeSet ∷ Rescue ∷ Decode ∷ Report
+    ∷ Map ∷ Write ∷ Split ∷ Turns ∷ ToG64 ∷ FromG64 ∷ Trial ∷ Help ∷ []
 
 -- its first word
 unfoldable pub verb_word : Verb → List ℕ
 verb_word Identify = codes "identify"
 verb_word Info = codes "info"
+verb_word Imd = codes "imd"
 verb_word Read = codes "read"
 verb_word Show = codes "show"
 verb_word DecodeFolder = codes "decode-folder"
@@ -43,6 +44,7 @@ verb_word Help = codes "help"
 unfoldable pub verb_texts : Verb → Texts (record { now : List ℕ })
 verb_texts Identify = IDENTIFY
 verb_texts Info = INFO
+verb_texts Imd = IMD
 verb_texts Read = READ
 verb_texts Show = SHOW
 verb_texts DecodeFolder = DECODE_FOLDER
@@ -70,6 +72,7 @@ verb_of word = option_and_then (slice_get verbs) (position_from (has_word word) 
 abbrev pub is_own : Verb → Bool
 is_own Identify = true
 is_own Info = true
+is_own Imd = true
 is_own Read = true
 is_own Show = true
 is_own Rescue = true
@@ -83,6 +86,7 @@ is_own _ = false
 abbrev pub asks_format : Verb → Bool
 asks_format Identify = false
 asks_format Info = false
+asks_format Imd = false
 asks_format Show = false
 asks_format Split = false
 asks_format Turns = false

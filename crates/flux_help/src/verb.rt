@@ -10,6 +10,8 @@ pub enum Verb {
     Identify,
     /// What the files of a dump tell without any format.
     Info,
+    /// Any IBM disk of its dumps, as a file of ImageDisk.
+    Imd,
     /// The files of several dumps to an image.
     Read,
     /// What dumps have of one sector.
@@ -43,9 +45,10 @@ pub enum Verb {
 }
 
 /// All commands, in the order in which the help lists them.
-const VERBS: [Verb; 17] = [
+const VERBS: [Verb; 18] = [
     Verb::Identify,
     Verb::Info,
+    Verb::Imd,
     Verb::Read,
     Verb::Show,
     Verb::DecodeFolder,
@@ -108,6 +111,22 @@ uneven: it is of another dump, drive or machine. The exit code is 0 where no fil
 
 Example:
    flux info dump
+",
+};
+
+const IMD: Texts<&str> = Texts {
+    word: "imd",
+    line: "   imd DUMP...                  any IBM disk of its dumps, without a format, to a file of ImageDisk\n",
+    usage: "usage: flux imd [--double-step] DUMP...\n",
+    about: "
+Reads the tracks of 1 to 8 dumps by every density of IBM's recordings, and writes them as a file of ImageDisk (IMD 1.18) to
+standard output. A track's record has the sectors of that mode and size that most bytes of it have, under the names that
+their headers tell, in the order in which they lie on the track; one of which no data are whole, or whole ones differ, has no
+data. The report on standard error tells these, each name that is left out, and the files that are missing or refused. With
+--double-step the file of cylinder 2C is that of the disk's cylinder C. The exit code is 0 where all is in the file.
+
+Example:
+   flux imd dump > disk.imd 2> report.txt
 ",
 };
 
@@ -336,6 +355,7 @@ impl Verb {
             self,
             Verb::Identify
                 | Verb::Info
+                | Verb::Imd
                 | Verb::Read
                 | Verb::Show
                 | Verb::Rescue
@@ -352,7 +372,13 @@ impl Verb {
     {
         !matches!(
             self,
-            Verb::Identify | Verb::Info | Verb::Show | Verb::Split | Verb::Turns | Verb::Help
+            Verb::Identify
+                | Verb::Info
+                | Verb::Imd
+                | Verb::Show
+                | Verb::Split
+                | Verb::Turns
+                | Verb::Help
         )
     }
 
@@ -367,6 +393,7 @@ impl Verb {
         match self {
             Verb::Identify => IDENTIFY,
             Verb::Info => INFO,
+            Verb::Imd => IMD,
             Verb::Read => READ,
             Verb::Show => SHOW,
             Verb::DecodeFolder => DECODE_FOLDER,

@@ -4,10 +4,11 @@ use Rattle.flux_help.specs.declared.page.Page.{Page}
 use Rattle.sector_images.specs.declared.format.Format.{Format}
 use Rattle.stream_files.specs.declared.heads.Heads.{Heads}
 use Rattle.flux_words.specs.DumpWords.{AskedDumps, asked_dumps}
+use Rattle.flux_words.specs.ImdWords.{AskedImd, asked_imd}
 use Rattle.flux_words.specs.SectorWords.{AskedSector, asked_sector}
 use Rattle.flux_words.specs.declared.commands.Command.{Command}
 use Rattle.flux_words.specs.declared.commands.Command.TheVariants.{Turns, Streams, Folder, Dumps}
-use Rattle.flux_words.specs.declared.commands.Command.TheVariants.{Sector, Identify, Info, Write}
+use Rattle.flux_words.specs.declared.commands.Command.TheVariants.{Sector, Identify, Imd, Info, Write}
 use Rattle.flux_words.specs.declared.commands.Command.TheVariants.{WriteFiles, Split}
 use Rattle.flux_words.specs.declared.commands.Command.TheVariants.{Trial, ToG64, FromG64, Tell}
 use Rattle.flux_words.specs.declared.commands.StreamsAsked.{StreamsAsked}
@@ -28,6 +29,8 @@ pub data Asked : Type 0 where
   an_identity : (dump : List ℕ) → Asked
   -- what the files of a dump tell without any format
   told_files : (dump : List ℕ) → Asked
+  -- any IBM disk of its dumps, as a file of ImageDisk
+  an_imd_file : AskedImd → Asked
   -- the streams of an image
   written_streams : Format → Asked
   -- the same as files of a folder
@@ -49,6 +52,7 @@ asked_of (Dumps asked) = some_dumps (asked_dumps asked)
 asked_of (Sector asked) = a_sector (asked_sector asked)
 asked_of (Identify dump) = an_identity dump.now
 asked_of (Info dump) = told_files dump.now
+asked_of (Imd asked) = an_imd_file (asked_imd asked)
 asked_of (Write format) = written_streams format
 asked_of (WriteFiles format folder) = written_files format folder.now
 asked_of (Split folder heads) = split_streams folder.now heads

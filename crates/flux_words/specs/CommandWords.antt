@@ -5,7 +5,7 @@ use Rattle.flux_help.specs.Verbs.{verb_of}
 use Rattle.flux_help.specs.declared.page.Page.{Page}
 use Rattle.flux_help.specs.declared.page.Page.TheVariants.{Help as AllPages, Version, About}
 use Rattle.flux_help.specs.declared.verb.Verb.{Verb}
-use Rattle.flux_help.specs.declared.verb.Verb.TheVariants.{Identify, Info, Read, Show, DecodeFolder}
+use Rattle.flux_help.specs.declared.verb.Verb.TheVariants.{Identify, Imd, Info, Read, Show, DecodeFolder}
 use Rattle.flux_help.specs.declared.verb.Verb.TheVariants.{DecodeSet, Rescue, Decode, Report, Map}
 use Rattle.flux_help.specs.declared.verb.Verb.TheVariants.{Write, Split, Turns, ToG64, FromG64}
 use Rattle.flux_help.specs.declared.verb.Verb.TheVariants.{Trial, Help}
@@ -16,11 +16,13 @@ use Rattle.stream_files.specs.declared.heads.Heads.TheVariants.{One, Two}
 use Rattle.track_shelf.specs.Names.{names_file}
 use Rattle.flux_words.specs.Asked.{Asked, the_turns, some_streams, a_folder, some_dumps, a_sector}
 use Rattle.flux_words.specs.Asked.{an_identity, told_files, written_streams, a_trial, a_g64_file}
+use Rattle.flux_words.specs.Asked.{an_imd_file}
 use Rattle.flux_words.specs.Asked.{an_image_of_g64, a_page}
 use Rattle.flux_words.specs.Asked.{written_files, split_streams}
 use Rattle.flux_words.specs.Counts.{IsCount}
 use Rattle.flux_words.specs.DumpWords.{AskedDumps, AreDumpWords}
 use Rattle.flux_words.specs.G64Disks.{format_of}
+use Rattle.flux_words.specs.ImdWords.{AskedImd, AreImdWords}
 use Rattle.flux_words.specs.Names.{Names}
 use Rattle.flux_words.specs.SectorWords.{AskedSector, AreSectorWords}
 use Rattle.flux_words.specs.Seeds.{IsSeed}
@@ -96,6 +98,8 @@ AreBehind Show others asked =
 AreBehind Identify others asked =
     (dump : List ℕ) × IsDump others dump × (asked ≡ an_identity dump)
 AreBehind Info others asked = (dump : List ℕ) × IsDump others dump × (asked ≡ told_files dump)
+AreBehind Imd others asked =
+    (disk : AskedImd) × AreImdWords others disk × (asked ≡ an_imd_file disk)
 AreBehind Write others asked =
     ((format : Format) × IsFormat format others × (asked ≡ written_streams format))
     ⊎ AreFilesWords others asked

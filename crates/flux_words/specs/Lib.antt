@@ -6,5 +6,6 @@ pub mod Asked
 pub mod CommandWords
 pub mod OptionWords
 pub mod DumpWords
+pub mod ImdWords
 pub mod SectorWords
 pub mod inside

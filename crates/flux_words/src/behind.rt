@@ -3,7 +3,7 @@
 ghost use Rattle.std.specs.Prelude.{◌≡◌, ◌⊎◌, ◌↔◌, IsTrue, ℕ, List, IfNone, IfSome};
 ghost use Rattle.std.specs.Option.{option_map};
 ghost use Rattle.flux_help.specs.declared.verb.Verb.TheVariants.{DecodeFolder, DecodeSet, FromG64, Help, Identify};
-ghost use Rattle.flux_help.specs.declared.verb.Verb.TheVariants.{Info, Read, Show, Split, ToG64, Trial, Turns, Write};
+ghost use Rattle.flux_help.specs.declared.verb.Verb.TheVariants.{Imd, Info, Read, Show, Split, ToG64, Trial, Turns, Write};
 ghost use Rattle.flux_words.specs.Asked.{asked_of};
 ghost use Rattle.flux_words.specs.CommandWords.{AreFilesWords, AreStreams, CanBeMade, IsDump, IsFormat};
 ghost use Rattle.flux_words.specs.CommandWords.{IsFormatInFolder, IsFormatWith, IsOfHeads};
@@ -16,6 +16,7 @@ ghost use Rattle.sector_images.specs.declared.format.Format.{Format as Kind};
 use crate::commands::{Command, Output, StreamsAsked, Way};
 use crate::count::count_of;
 use crate::g64_disk::G64Disk;
+use crate::imd_words::imd_asked;
 use crate::seed::seed_of;
 use crate::{dump_words, sector_words};
 use flux_base::Word;
@@ -184,6 +185,15 @@ pub(crate) fn info_behind(others: &[Word]) -> Option<Command<'_>>
 {
     match dump_in(others) {
         Some(dump) => Some(Command::Info(dump)),
+        None => None,
+    }
+}
+
+pub(crate) fn imd_behind(others: &[Word]) -> Option<Command<'_>>
+    ensures { AskBehind Imd others.now (option_map asked_of result) }
+{
+    match imd_asked(others) {
+        Some(asked) => Some(Command::Imd(asked)),
         None => None,
     }
 }

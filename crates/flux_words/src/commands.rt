@@ -9,12 +9,13 @@ ghost use Rattle.flux_words.specs.inside.CommandWords.{AskBehind};
 ghost use Rattle.flux_words.specs.Names.{Names};
 
 use crate::behind::{
-    dump_behind, dumps_behind, folder_behind, from_g64_behind, info_behind, page_behind,
-    sector_behind, set_behind, split_behind, streams_behind, to_g64_behind, trial_behind,
-    turns_behind, write_behind,
+    dump_behind, dumps_behind, folder_behind, from_g64_behind, imd_behind, info_behind,
+    page_behind, sector_behind, set_behind, split_behind, streams_behind, to_g64_behind,
+    trial_behind, turns_behind, write_behind,
 };
 use crate::dump_words::DumpsAsked;
 use crate::g64_disk::G64Disk;
+use crate::imd_words::ImdAsked;
 use crate::sector_words::ShowAsked;
 use flux_base::Word;
 use flux_help::{Page, Verb};
@@ -38,6 +39,8 @@ pub enum Command<'a> {
     Identify(&'a Word),
     /// What the files of a dump tell without any format.
     Info(&'a Word),
+    /// Any IBM disk of its dumps, as a file of ImageDisk.
+    Imd(ImdAsked<'a>),
     /// The streams of a disk's tracks, from its image.
     Write(Format),
     /// The same as files of a folder.
@@ -104,6 +107,7 @@ fn command_behind(verb: Verb, others: &[Word]) -> Option<Command<'_>>
     match verb {
         Verb::Identify => dump_behind(others),
         Verb::Info => info_behind(others),
+        Verb::Imd => imd_behind(others),
         Verb::Read => dumps_behind(others),
         Verb::Show => sector_behind(others),
         Verb::DecodeFolder => folder_behind(others),

@@ -15,7 +15,7 @@ use sector_images::{Format, words_name_formats};
 use track_shelf::Stepping;
 
 /// How many dumps are read at most.
-const MOST_DUMPS: usize = 8;
+pub(crate) const MOST_DUMPS: usize = 8;
 
 /// What is asked of dumps.
 #[derive(Clone, Copy)]
@@ -70,7 +70,7 @@ pub(crate) fn are_readable(dumps: &[Word], stepping: Stepping, format: Format) -
 }
 
 /// Whether a dump has no name.
-fn has_nameless(dumps: &[Word]) -> bool
+pub(crate) fn has_nameless(dumps: &[Word]) -> bool
     ensures { result ≡ list_any is_nameless dumps.now }
 {
     dumps.iter().any(|dump| dump.bytes().is_empty())

@@ -4,8 +4,9 @@ use Rattle.flux_help.specs.WrongWords.{wrong_text}
 use Rattle.flux_base.specs.declared.status.Status.TheVariants.{NotesFault, ShelfFault, Usage}
 use Rattle.flux_base.specs.lemmas.Blaming.{CountsBy-notes}
 use Rattle.flux_engine.specs.lemmas.ReadLaws.{no_reads}
-use Rattle.flux_words.specs.Asked.{the_turns, some_streams, a_folder, some_dumps, a_sector, an_identity, told_files, written_streams, written_files, split_streams, a_trial, a_g64_file, an_image_of_g64, a_page}
+use Rattle.flux_words.specs.Asked.{the_turns, some_streams, a_folder, some_dumps, a_sector, an_identity, told_files, an_imd_file, written_streams, written_files, split_streams, a_trial, a_g64_file, an_image_of_g64, a_page}
 use Rattle.flux_words.specs.DumpWords.{asked_dumps}
+use Rattle.flux_words.specs.ImdWords.{asked_imd}
 use Rattle.flux_words.specs.SectorWords.{asked_sector}
 use Rattle.flux_cli.proofs.AskedWords.{asked_keeps, counts-asked}
 use Rattle.flux_cli.proofs.Blaming.{run-of-source}
@@ -20,6 +21,9 @@ run-requires-in-Some-Streams g c = asked_keeps c.args.words.now (some_streams c.
 
 pub run-requires-in-Some-Dumps : goal.run-requires-in-Some-Dumps
 run-requires-in-Some-Dumps g c = asked_keeps c.args.words.now (some_dumps (asked_dumps c.in-Some-Dumps.asked)) (rw c.in-Some-Dumps.field-0-is at c.in-Some-Dumps.ensures)
+
+pub run-requires-in-Some-Imd : goal.run-requires-in-Some-Imd
+run-requires-in-Some-Imd g c = asked_keeps c.args.words.now (an_imd_file (asked_imd c.in-Some-Imd.asked)) (rw c.in-Some-Imd.field-0-is at c.in-Some-Imd.ensures)
 
 pub run-requires-in-Some-Sector : goal.run-requires-in-Some-Sector
 run-requires-in-Some-Sector g c = asked_keeps c.args.words.now (a_sector (asked_sector c.in-Some-Sector.asked)) (rw c.in-Some-Sector.field-0-is at c.in-Some-Sector.ensures)
@@ -124,6 +128,12 @@ returns-in-Some-Info-clause-ran g c = record { asked = Some (told_files c.in-Som
 
 pub returns-in-Some-Info-clause-counts : goal.returns-in-Some-Info-clause-counts
 returns-in-Some-Info-clause-counts g c = counts-asked c.args.words.now (told_files c.in-Some-Info.dump.now) (rw c.in-Some-Info.field-0-is at c.in-Some-Info.ensures) c.run-in-Some-Info.ensures.counts
+
+pub returns-in-Some-Imd-clause-ran : goal.returns-in-Some-Imd-clause-ran
+returns-in-Some-Imd-clause-ran g c = record { asked = Some (an_imd_file (asked_imd c.in-Some-Imd.asked)); asks = (rw c.in-Some-Imd.field-0-is at c.in-Some-Imd.ensures); did = c.run-in-Some-Imd.ensures.did }
+
+pub returns-in-Some-Imd-clause-counts : goal.returns-in-Some-Imd-clause-counts
+returns-in-Some-Imd-clause-counts g c = counts-asked c.args.words.now (an_imd_file (asked_imd c.in-Some-Imd.asked)) (rw c.in-Some-Imd.field-0-is at c.in-Some-Imd.ensures) c.run-in-Some-Imd.ensures.counts
 
 pub returns-in-Some-Write-clause-ran : goal.returns-in-Some-Write-clause-ran
 returns-in-Some-Write-clause-ran g c = record { asked = Some (written_streams c.in-Some-Write.format); asks = (rw c.in-Some-Write.field-0-is at c.in-Some-Write.ensures); did = c.run-in-Some-Write.ensures.did }

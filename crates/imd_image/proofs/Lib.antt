@@ -1,0 +1,6 @@
+mod Joining
+mod Counting
+mod Reaching
+mod Founds
+mod Pieces
+mod Tellings
