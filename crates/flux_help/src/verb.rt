@@ -372,13 +372,13 @@ impl Verb {
     {
         !matches!(
             self,
-            Verb::Identify
+            Verb::Help
+                | Verb::Identify
                 | Verb::Info
                 | Verb::Imd
                 | Verb::Show
                 | Verb::Split
                 | Verb::Turns
-                | Verb::Help
         )
     }
 
