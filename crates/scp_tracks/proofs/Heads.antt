@@ -1,27 +1,16 @@
 -- A track by its header.
-use Rattle.std.proofs.Common.{◌≡◌, ◌≤◌, ◌==◌, if◌then◌else◌, ℕ, true, List, [], length, take, nat_lt, not, slice_index, Option, Some, None, Result, Ok, Err, IfOk, refl, sym, ap, subst, ◌∙◌, inl, inr, arith, append-nil}
+use Rattle.std.proofs.Common.{◌≡◌, ◌≤◌, ◌==◌, if◌then◌else◌, ℕ, true, List, [], length, take, nat_lt, not, slice_index, Option, Some, None, Result, Ok, Err, IfOk, refl, sym, ap, subst, ◌∙◌, inl, inr, arith}
 use Rattle.std.proofs.lemmas.Bool.{cases_lt}
 use Rattle.std.proofs.lemmas.Bool.Decides.{nat_tests}
-use Rattle.std.specs.Option.{option_map}
 use Rattle.std.specs.Str.{bytes_eq}
 use Rattle.flux_base.specs.declared.outside.Failed.{Failed}
 use Rattle.scp_files.specs.Captures.{CaptureState, Holds}
 use Rattle.scp_files.specs.Tracks.{TRACK_SIGNATURE, end_fault, head_fault, head_size, whole_count}
 use Rattle.scp_files.specs.declared.fault.ScpTrackFault.{ScpTrackFault}
 use Rattle.scp_files.specs.declared.fault.ScpTrackFault.TheVariants.{BadNumber, BadSignature, ShortTrack}
-use Rattle.track_shelf.specs.Handled.{Handled, more_blamed}
-use Rattle.track_shelf.specs.Told.{ShelfTold, with_failed}
 use Rattle.scp_tracks.specs.Tracks.{HoldsFirst, ReadsTrack, count_by, fault_by}
 use Rattle.scp_tracks.specs.declared.track.TrackPlace.{TrackPlace}
 use Rattle.scp_tracks.specs.inside.Walk.{ReadsRevolutions}
-
--- that no file failed changes nothing
-none-blamed : (h : Option Handled) → option_map (more_blamed []) h ≡ h
-none-blamed None = refl
-none-blamed (Some h) = ap (λ (paths : List (List ℕ)). Some (record h { blamed = paths })) (append-nil h.blamed)
-
-pub none-failed : (told : ShelfTold) → with_failed [] told ≡ told
-none-failed told = ap (λ (h : Option Handled). record told { handled = h }) (none-blamed told.handled)
 
 pub none_some : {X : Type 0} {x : X} → None ≡ Some x → ⊥
 none_some same = cc

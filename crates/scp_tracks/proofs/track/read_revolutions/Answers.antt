@@ -5,7 +5,7 @@ use Rattle.scp_files.specs.declared.head.Revolution.{Revolution}
 use Rattle.track_shelf.specs.Told.{ShelfTold}
 use Rattle.scp_tracks.specs.inside.Places.{ReadsAt}
 use Rattle.scp_tracks.specs.inside.Walk.{HasWalked}
-use Rattle.scp_tracks.proofs.Heads.{none-failed}
+use Rattle.scp_tracks.specs.lemmas.Failing.{none-failed}
 use Rattle.scp_tracks.proofs.Walking.{behind, ends-all, ends-long, ends-over, ends-short, few-enough, read-so-many, still, too-many, walk-on}
 use Rattle.scp_tracks.proofs.track.read_revolutions.Goals as goal
 
