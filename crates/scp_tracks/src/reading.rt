@@ -1,7 +1,7 @@
 //! What stands at places of the file: its begin, the header of a track, and the entries of a revolution. For each the
 //! file is opened, read and closed.
 
-ghost use Rattle.std.specs.Prelude.{◌≡◌, ◌+◌, ◌*◌, ◌<◌, ◌≤◌, ℕ, List, Some, take, drop, is_err, IfOk};
+ghost use Rattle.std.specs.Prelude.{◌≡◌, ◌+◌, ◌*◌, ◌<◌, ◌≤◌, ℕ, List, Some, None, take, drop, is_err, IfOk};
 ghost use Rattle.flux_base.specs.Counts.{Counts, counts_of};
 ghost use Rattle.flux_base.specs.World.{source_counts};
 ghost use Rattle.track_shelf.specs.Files.{File, file_at};
@@ -59,6 +59,8 @@ pub(crate) fn read_head<H: Shelf>(
 ) -> Result<Option<TrackHead>, Failed>
     ensures is { (files : List File) (file : File) → H.files shelf.old ≡ Some files → file_at files path.now ≡ Some file
         → IfOk result (λ head. head ≡ Some (take (head_size revolutions) (drop place file.bytes))) }
+    ensures absent { (files : List File) → H.files shelf.old ≡ Some files → file_at files path.now ≡ None
+        → IfOk result (λ head. head ≡ None) }
     ensures told { told_at H.Source H.Shelf.own shelf.new
         ≡ with_failed (lost path.now result) (told_at H.Source H.Shelf.own shelf.old) }
     ensures counts { Counts (is_err result) (source_counts H.Source shelf.old) (source_counts H.Source shelf.new) }

@@ -1,12 +1,13 @@
 //! A track of the file: its header, and its revolutions up to the first that is not read.
 
-ghost use Rattle.std.specs.Prelude.{◌≡◌, ◌≤◌, [], ℕ, List, Some, drop, is_err, length, take, IfOk};
+ghost use Rattle.std.specs.Prelude.{◌≡◌, ◌≤◌, [], ℕ, List, Some, None, drop, is_err, length, take, IfOk};
 ghost use Rattle.flux_base.specs.Counts.{Counts};
 ghost use Rattle.flux_base.specs.World.{source_counts};
 ghost use Rattle.track_shelf.specs.Files.{File, file_at};
 ghost use Rattle.track_shelf.specs.Told.{with_failed};
 ghost use Rattle.track_shelf.specs.World.{told_at};
 ghost use Rattle.scp_files.specs.Captures.{Holds};
+ghost use Rattle.scp_files.specs.declared.fault.ScpTrackFault.TheVariants.{ShortTrack};
 ghost use Rattle.scp_files.specs.Tracks.{head_size};
 ghost use Rattle.scp_tracks.specs.Tracks.{ReadsTrack, lost};
 ghost use Rattle.scp_tracks.specs.inside.Walk.{ReadsRevolutions};
@@ -36,6 +37,8 @@ pub fn read_track<H: Shelf>(
     requires begun { Holds [] [] capture.old }
     ensures is { (files : List File) (file : File) → H.files shelf.old ≡ Some files → file_at files path.now ≡ Some file
         → IfOk result (ReadsTrack place (drop place.offset file.bytes) capture.new) }
+    ensures absent { (files : List File) → H.files shelf.old ≡ Some files → file_at files path.now ≡ None
+        → IfOk result (λ fault. (fault ≡ Some ShortTrack) × (capture.new ≡ capture.old)) }
     ensures resolution { capture.new.resolution ≡ capture.old.resolution }
     ensures told { told_at H.Source H.Shelf.own shelf.new
         ≡ with_failed (lost path.now result) (told_at H.Source H.Shelf.own shelf.old) }

@@ -1,4 +1,4 @@
-use Rattle.std.proofs.Common.{◌≡◌, drop, take, sym, ap, ◌∙◌, arith}
+use Rattle.std.proofs.Common.{◌≡◌, drop, take, refl, sym, ap, ◌∙◌, arith}
 use Rattle.scp_files.specs.Tracks.{head_fault, head_size}
 use Rattle.track_shelf.specs.Told.{ShelfTold}
 use Rattle.scp_tracks.proofs.Heads.{none_some, read-is, refused-is, sized, some_same}
@@ -7,6 +7,9 @@ use Rattle.scp_tracks.proofs.track.read_track.Goals as goal
 pub returns-in-Ok-None-clause-is : goal.returns-in-Ok-None-clause-is
 returns-in-Ok-None-clause-is g c files file told at =
     absurd (none_some (sym c.in-Ok-None.field-0-is ∙ c.in-Ok-None.ensures.is files file told at))
+
+pub returns-in-Ok-None-clause-absent : goal.returns-in-Ok-None-clause-absent
+returns-in-Ok-None-clause-absent g c files told absent = (refl, refl)
 
 pub read_revolutions-requires-clause-head : goal.read_revolutions-requires-clause-head
 read_revolutions-requires-clause-head g c = sized c.args.place.revolutions c.args.place.number c.in-Ok-Some.head (sym c.in-None.ensures)
@@ -21,6 +24,10 @@ returns-in-Some-clause-is g c files file told at =
     let fault = sym ((c.begins_tell.ensures.tracks R track).fault c.args.place.number) ∙ ap (head_fault R c.args.place.number) (sym head) ∙ sym c.in-Some.ensures in
     refused-is c.args.place track c.args.capture.now c.in-Some.fault fault c.requires.begun
 
+pub returns-in-Some-clause-absent : goal.returns-in-Some-clause-absent
+returns-in-Some-clause-absent g c files told absent =
+    absurd (none_some (sym (c.in-Ok-Some.ensures.absent files told absent) ∙ c.in-Ok-Some.field-0-is))
+
 pub returns-in-None-clause-is : goal.returns-in-None-clause-is
 returns-in-None-clause-is g c files file told at =
     let track = drop c.args.place.offset file.bytes in
@@ -32,3 +39,7 @@ returns-in-None-clause-is g c files file told at =
     let same_files = ap (λ (t : ShelfTold). t.files) c.in-Ok-Some.ensures.told in
     read-is c.args.place track c.read_revolutions.new.capture c.read_revolutions.result none
     (c.read_revolutions.ensures.is files file (same_files ∙ told) at head)
+
+pub returns-in-None-clause-absent : goal.returns-in-None-clause-absent
+returns-in-None-clause-absent g c files told absent =
+    absurd (none_some (sym (c.in-Ok-Some.ensures.absent files told absent) ∙ c.in-Ok-Some.field-0-is))
