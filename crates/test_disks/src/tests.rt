@@ -7,3 +7,4 @@ mod names;
 mod pictures;
 mod sets;
 mod trials;
+mod unpacked;
