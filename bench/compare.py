@@ -58,7 +58,7 @@ def answer_of(words, wanted):
     if code == 2:
         fault = last[0].decode().split()
         found.append("refused: " + next((part for part in fault if part[0].isupper()), fault[3] if fault[1:2] == ["track"] else "image"))
-    if code == 8 and words[0] in (b"write", b"split"):
+    if code == 8 and words[0] in (b"write", b"split", b"unpack"):
         found.append("failed: " + last[0].decode().split()[1])
     text = (out if words and words[0] in (b"report", b"map") else notes).decode()
     verdicts = re.findall(r"(?:^|<title>)[0-9]{2}\.[01] [0-9]{2,3} ([a-z]+) ", text, re.MULTILINE)

@@ -41,17 +41,17 @@ def entries(begin, times, resolution):
 
 
 def track(number, stream, turns, resolution):
-    """The bytes of a track. Entries run on over the revolutions; each takes those that end before its index."""
+    """The bytes of a track. Entries run on over the revolutions; each takes those that end before its index. One that the stream has not is without any."""
     marks = stream.indexes[: turns + 1]
     durations = [units(b - marks[0], resolution) - units(a - marks[0], resolution) for a, b in zip(marks, marks[1:])]
     heads, data, at = b"", b"", 0
-    place = 4 + 12 * len(durations)
+    place = 4 + 12 * turns
     for begin, end, duration in zip(marks, marks[1:], durations):
         times = [time - marks[0] for time in stream.times if begin < time <= end]
         values, at = entries(at, times, resolution)
         heads += struct.pack("<III", duration, len(values), place + len(data))
         data += struct.pack(f">{len(values)}H", *values)
-    return b"TRK" + bytes([number]) + heads + data
+    return b"TRK" + bytes([number]) + heads.ljust(12 * turns, b"\0") + data
 
 
 def scp(tracks, turns, resolution, table, footer, writable):
@@ -61,10 +61,7 @@ def scp(tracks, turns, resolution, table, footer, writable):
     for number, stream in sorted(tracks.items()):
         if number < table:
             offsets[number] = begin + len(body)
-            data = track(number, stream, turns, resolution)
-            if len(stream.indexes) <= turns:
-                data += bytes(12 * (turns + 1 - len(stream.indexes)))
-            body += data
+            body += track(number, stream, turns, resolution)
     rest = struct.pack(f"<{table}I", *offsets) + body + (b"flux samples\0FPCS" if footer else b"")
     flags = 0x01 | (0x10 if writable else 0)
     used = [number for number in tracks if number < table] or [0]

@@ -6,6 +6,7 @@ import plain_commands
 from case_dumps import case_folder, case_identify, case_info, case_numbers, case_others, case_read, case_show, few
 from case_files import case_split, case_write_files
 from case_imd import case_imd
+from case_scp import case_unpack
 from case_streams import FILLER, SHORTEST, faulty, few_blocks, one_in, spell, too_long
 from case_tracks import noisy_track, random_data, track_stream, whole_track
 from plain import FORMATS
@@ -258,6 +259,7 @@ TABLE = [
     ("disks without a format", 60, case_imd, b"imd"),
     ("images as files", 60, case_write_files, plain_commands.WRITE_FOLDER),
     ("streams to be cut apart", 150, case_split, b"split"),
+    ("SCP files", 100, case_unpack, b"unpack"),
     ("trials", 8, case_trial, b"trial"),
 ]
 

@@ -11,7 +11,7 @@ import plain_imd
 import plain_info
 from plain import FORMATS, decoded, from_g64, g64_file, stream_of, trial_line, unfit, wrong_size
 from plain_dumps import Dumps, Shelf
-from plain_files import Outside, split, write_files
+from plain_files import Outside, split, unpack, write_files
 from plain_map import picture
 from plain_streams import Refused, Stream
 
@@ -178,7 +178,7 @@ OWN_USAGES = {
     b"read": b"usage: flux read [--picture] [--double-step] FORMAT DUMP...", b"identify": b"usage: flux identify DUMP",
     b"info": b"usage: flux info DUMP", b"imd": b"usage: flux imd [--double-step] DUMP...",
     b"show": b"usage: flux show [--double-step] [--copy N] FORMAT TRACK SECTOR DUMP...",
-    b"rescue": b"usage: flux rescue FORMAT", b"map": b"usage: flux map FORMAT", b"split": b"usage: flux split FOLDER HEADS",
+    b"rescue": b"usage: flux rescue FORMAT", b"map": b"usage: flux map FORMAT", b"split": b"usage: flux split FOLDER HEADS", b"unpack": b"usage: flux unpack DISK.scp FOLDER",
 }
 WRITE_FOLDER = b"write --folder"
 FOLDER_USAGE = b"usage: flux write [--folder FOLDER] FORMAT"
@@ -221,6 +221,8 @@ def wrong_words(words, built, usage):
 
 def files_asked(words, built):
     """What words ask for that make files, if they do, of what lies outside. A folder whose name is that of a track's file would be read as one."""
+    if words[:1] == [b"unpack"] and b"unpack" in built and len(words) == 3 and all(words) and not plain_dumps.names_file(words[2]):
+        return lambda outside: unpack(words[1], words[2], outside)
     if len(words) < 3 or not words[-2] or plain_dumps.names_file(words[-2]):
         return None
     form = FORMATS.get(words[-1].decode())

@@ -1,4 +1,4 @@
-"""Files that are made, off the definitions: those of an image, one for each track, and those into which joined streams are cut.
+"""Files that are made, off the definitions: those of an image, one for each track, those into which joined streams are cut, and those of an SCP file.
 
 A file is made only where nothing lies, so what was there stays.
 """
@@ -7,6 +7,7 @@ import pathlib
 import re
 import struct
 
+import plain_scp
 from plain import stream_of, wrong_size
 from plain_dumps import MOST_CYLINDERS, parts_of
 from plain_streams import Refused, Stream, padding_at
@@ -125,3 +126,40 @@ def split(folder, heads, outside):
     """Joined streams as a file each, in the order of the tracks of a disk that has so many heads, without what stands between them."""
     tracks = [(cylinder, head) for cylinder in range(MOST_CYLINDERS) for head in range(heads)]
     return answer(outside, folder, tracks, streams_in(outside.given))
+
+
+def track_told(track):
+    """The file of a track of an SCP file, if one is made, and why not, or what it lacks, if anything."""
+    try:
+        Stream(track.bytes, 0)
+    except Refused as stop:
+        return None, stop.text()
+    return track.bytes, f"scp ShortData {track.short}" if track.short else None
+
+
+def unpack(path, folder, outside):
+    """The tracks of an SCP file as files of the streams that they stand for. What is told of tracks stands before how many files there are."""
+    tree, notes, made, refused = Tree(outside), b"", 0, 0
+    given = tree.lies.get(parts_of(path))
+    if given is None:
+        return 2, b"", b"refused scp missing\n", tree.paths()
+    try:
+        file = plain_scp.File(given)
+    except plain_scp.Refused as stop:
+        return 2, b"", f"refused {stop.text()}\n".encode(), tree.paths()
+    there = first_there(tree, folder, [divmod(number, 2) for number in range(plain_scp.TABLE)])
+    if there or not tree.make_folder(folder):
+        return 8, b"", there or b"failed folder\n", tree.paths()
+    for number in file.offsets:
+        name = file_name(divmod(number, 2))
+        try:
+            stream, told = track_told(file.track(number))
+        except plain_scp.Refused as stop:
+            stream, told = None, stop.text()
+        if stream is not None and not tree.make_file(folder + b"/" + name, stream):
+            return 8, b"", notes + b"failed track %d %s\n" % (number, name), tree.paths()
+        made += stream is not None
+        if told:
+            refused += 1
+            notes += f"{number // 2:02}.{number % 2} refused {told}\n".encode()
+    return int(not made or refused > 0), b"", notes + b"total files %d refused %d\n" % (made, refused), tree.paths()

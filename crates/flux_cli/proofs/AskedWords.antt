@@ -3,7 +3,7 @@ use Rattle.std.proofs.Common.{◌≡◌, ℕ, false, List, [], ◌∷◌, Option
 use Rattle.flux_base.specs.declared.status.Status.{Status}
 use Rattle.flux_help.specs.Verbs.{verb_of}
 use Rattle.flux_help.specs.declared.verb.Verb.{Verb}
-use Rattle.flux_help.specs.declared.verb.Verb.TheVariants.{Identify, Imd, Info, Read, Show, DecodeFolder, DecodeSet, Rescue, Decode, Report, Map, Write, Split, Turns, ToG64, FromG64, Trial, Help}
+use Rattle.flux_help.specs.declared.verb.Verb.TheVariants.{Identify, Imd, Info, Read, Show, DecodeFolder, DecodeSet, Rescue, Decode, Report, Map, Write, Split, Unpack, Turns, ToG64, FromG64, Trial, Help}
 use Rattle.flux_words.specs.Asked.{Asked}
 use Rattle.flux_words.specs.CommandWords.{AreBehind, AreByVerb, AreWordsOf, AskFor, AskOnce}
 use Rattle.flux_words.specs.SectorWords.{ArePlaceWords, AskedSector}
@@ -40,6 +40,7 @@ module _ (others : List (List ℕ)) (asked : Asked) where
   keeps_behind Write (inl p) = subst Keeps (sym p.2) tt
   keeps_behind Write (inr p) = subst Keeps (sym p.4) p.3.is_folder
   keeps_behind Split p = subst Keeps (sym p.6) tt
+  keeps_behind Unpack p = subst Keeps (sym p.5) tt
   keeps_behind Trial p = subst Keeps (sym p.5) tt
   keeps_behind ToG64 p = subst Keeps (sym p.2) tt
   keeps_behind FromG64 p = subst Keeps (sym p.2) tt
@@ -63,6 +64,7 @@ module _ (others : List (List ℕ)) (asked : Asked) where
   over_behind Write (inl p) = ap over_dumps (sym p.2)
   over_behind Write (inr p) = ap over_dumps (sym p.4)
   over_behind Split p = ap over_dumps (sym p.6)
+  over_behind Unpack p = ap over_dumps (sym p.5)
   over_behind Trial p = ap over_dumps (sym p.5)
   over_behind ToG64 p = ap over_dumps (sym p.2)
   over_behind FromG64 p = ap over_dumps (sym p.2)
@@ -86,6 +88,7 @@ module _ (others : List (List ℕ)) (asked : Asked) where
   files_behind Write (inl p) = ap (verb_asks_files (Some Write)) p.1.1 ∙ ap asks_files (sym p.2)
   files_behind Write (inr p) = ap (verb_asks_files (Some Write)) p.2.1 ∙ ap asks_files (sym p.4)
   files_behind Split p = ap asks_files (sym p.6)
+  files_behind Unpack p = ap asks_files (sym p.5)
   files_behind Trial p = ap asks_files (sym p.5)
   files_behind ToG64 p = ap asks_files (sym p.2)
   files_behind FromG64 p = ap asks_files (sym p.2)

@@ -11,7 +11,7 @@ use Rattle.flux_cli.proofs.Often.{many-none}
 use Rattle.flux_cli.specs.Runs.{Does}
 use Rattle.flux_cli.specs.Work.{Work}
 use Rattle.flux_cli.specs.World.{Outside}
-use Rattle.flux_cli.specs.Blamed.{CountsOfFiles, CountsOfNotes, CountsOfRun, CountsOfShelf, CountsOnShelf, all_counts, is_of_files, shelf_blame, source_blame, tells_unmade}
+use Rattle.flux_cli.specs.Blamed.{CountsOfFiles, IsOfFiles, CountsOfNotes, CountsOfRun, CountsOfShelf, CountsOnShelf, all_counts, is_of_files, shelf_blame, source_blame, tells_unmade}
 
 -- a call that has no notes
 pub CountsBy-noteless : {source source' image image' : FaultCounts} (notes : FaultCounts) (blame : Blame)
@@ -58,6 +58,17 @@ no_files NotesFault other = refl
 no_files Memory other = refl
 no_files ShelfFault other = absurd (other refl)
 
+no_fault : (status : Status) → (status ≡ ShelfFault → ⊥) → IsOfFiles status no_one
+no_fault AllGood other = refl
+no_fault NotAllGood other = refl
+no_fault Refused other = refl
+no_fault Usage other = refl
+no_fault ReadFault other = refl
+no_fault ImageFault other = refl
+no_fault NotesFault other = refl
+no_fault Memory other = refl
+no_fault ShelfFault other = tt
+
 uncalled : (status : Status) → (status ≡ ShelfFault → ⊥) → (counts : FaultCounts) → Counts (is_of_files status) counts counts
 uncalled status other counts = subst (λ (fails : Bool). Counts fails counts counts) (sym (no_files status other)) (Counts-none counts)
 
@@ -77,7 +88,8 @@ still_shelf false status other shelf = uncalled status other shelf
 -- what makes files is not touched either
 still_files : (dumps makes : Bool) (status : Status) → (status ≡ ShelfFault → ⊥) → (shelf maker : FaultCounts) → CountsOfFiles dumps makes status shelf shelf maker maker
 still_files dumps false status other shelf maker = (still_shelf dumps status other shelf, Counts-none maker)
-still_files dumps true status other shelf maker = (Counts-none shelf, uncalled status other maker)
+still_files false true status other shelf maker = (Counts-none shelf, uncalled status other maker)
+still_files true true status other shelf maker = (no_one, no_fault status other, Counts-none shelf, Counts-none maker)
 
 -- and no line tells of it
 untold_files : (makes fails : Bool) (status : Status) → (status ≡ ShelfFault → ⊥) → (notes notes' : FaultCounts) → Counts fails notes notes'

@@ -28,3 +28,4 @@ pub mod FilesTold
 pub mod Making
 pub mod FilesHeadline
 pub mod SplitHeadline
+pub mod Unpacking

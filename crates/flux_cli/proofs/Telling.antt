@@ -9,7 +9,7 @@ use Rattle.flux_base.specs.lemmas.Counting.{Counts-then}
 use Rattle.flux_base.specs.Blames.{is_notes}
 use Rattle.flux_cli.specs.Blamed.{CountsOfNotes, CountsOfRun, all_counts, AllCounts, source_blame, tells_unmade}
 use Rattle.flux_cli.specs.OutputTold.{RanAndTold, ToldIf, failed_output_text, is_told, tells_faults, with_notes}
-use Rattle.flux_words.specs.Asked.{Asked, the_turns, some_streams, a_folder, some_dumps, a_sector, an_identity, told_files, an_imd_file, written_streams, written_files, split_streams, a_trial, a_g64_file, an_image_of_g64, a_page}
+use Rattle.flux_words.specs.Asked.{Asked, the_turns, some_streams, a_folder, some_dumps, a_sector, an_identity, told_files, an_imd_file, written_streams, written_files, split_streams, unpacked_file, a_trial, a_g64_file, an_image_of_g64, a_page}
 use Rattle.flux_cli.specs.ShelfRuns.{Ran}
 use Rattle.flux_cli.specs.World.{Outside, World, on_shelf, InputMoment, on_source, outside}
 use Rattle.flux_cli.specs.Runs.{Does}
@@ -88,6 +88,7 @@ output_expected before left notes (an_imd_file asked) did = tt
 output_expected before left notes (written_streams format) did = tt
 output_expected before left notes (written_files format folder) did = did
 output_expected before left notes (split_streams folder heads) did = did
+output_expected before left notes (unpacked_file file folder) did = tt
 output_expected before left notes (a_g64_file disk) did = tt
 output_expected before left notes (a_page page) did = tt
 

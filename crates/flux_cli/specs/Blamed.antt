@@ -10,9 +10,9 @@ use Rattle.flux_base.specs.declared.status.Status.TheVariants.{ShelfFault}
 use Rattle.flux_help.specs.Verbs.{verb_of}
 use Rattle.flux_help.specs.declared.verb.Verb.{Verb}
 use Rattle.flux_help.specs.declared.verb.Verb.TheVariants.{Identify, Imd, Info, Read, Show, Write}
-use Rattle.flux_help.specs.declared.verb.Verb.TheVariants.{Split}
+use Rattle.flux_help.specs.declared.verb.Verb.TheVariants.{Split, Unpack}
 use Rattle.flux_words.specs.Asked.{Asked, some_dumps, a_sector, an_identity, told_files}
-use Rattle.flux_words.specs.Asked.{an_imd_file, written_files, split_streams}
+use Rattle.flux_words.specs.Asked.{an_imd_file, written_files, split_streams, unpacked_file}
 use Rattle.flux_cli.specs.World.{World}
 
 abbrev pub source_blame : Status → Blame
@@ -35,6 +35,7 @@ over_dumps (an_identity dump) = true
 over_dumps (told_files dump) = true
 over_dumps (an_imd_file asked) = true
 over_dumps (a_sector asked) = true
+over_dumps (unpacked_file file folder) = true
 over_dumps _ = false
 
 abbrev pub verb_over_dumps : Option Verb → Bool
@@ -43,6 +44,7 @@ verb_over_dumps (Some Identify) = true
 verb_over_dumps (Some Info) = true
 verb_over_dumps (Some Imd) = true
 verb_over_dumps (Some Show) = true
+verb_over_dumps (Some Unpack) = true
 verb_over_dumps _ = false
 
 abbrev pub reads_dumps : (words : List (List ℕ)) → Bool
@@ -54,11 +56,13 @@ reads_dumps (first ∷ others) = verb_over_dumps (verb_of first)
 abbrev pub asks_files : Asked → Bool
 asks_files (written_files format folder) = true
 asks_files (split_streams folder heads) = true
+asks_files (unpacked_file file folder) = true
 asks_files _ = false
 
 abbrev pub verb_asks_files : Option Verb → (others : List (List ℕ)) → Bool
 verb_asks_files (Some Write) (option ∷ folder ∷ others) = true
 verb_asks_files (Some Split) others = true
+verb_asks_files (Some Unpack) others = true
 verb_asks_files _ _ = false
 
 abbrev pub makes_files : (words : List (List ℕ)) → Bool
@@ -85,14 +89,24 @@ CountsOfShelf false status before after = Counts (is_of_files status) before aft
 CountsOfShelf true status before after =
     (often : ℕ) × FailsOften status often × CountsMany often before after
 
--- It is what makes files that failed where some are asked for, and then the shelf was not called;
--- else the shelf did so, and nothing was made.
+-- a fault of files is one of the shelf, or of what makes files; or of neither, where a file that
+-- would be made is there
+abbrev pub IsOfFiles : Status → Blame → Type 0
+IsOfFiles ShelfFault the_notes = ⊥
+IsOfFiles ShelfFault blame = Unit {0}
+IsOfFiles _ blame = blame ≡ no_one
+
+-- It is what makes files that failed where some are asked for, and then the shelf was not called,
+-- or one of both where a file is unpacked; else the shelf did so, and nothing was made.
 abbrev pub CountsOfFiles : (dumps makes : Bool) → Status
     → (shelf shelf' maker maker' : FaultCounts) → Type 0
 CountsOfFiles dumps false status shelf shelf' maker maker' =
     CountsOfShelf dumps status shelf shelf' × Counts false maker maker'
-CountsOfFiles dumps true status shelf shelf' maker maker' =
+CountsOfFiles false true status shelf shelf' maker maker' =
     Counts false shelf shelf' × Counts (is_of_files status) maker maker'
+CountsOfFiles true true status shelf shelf' maker maker' =
+    (blame : Blame) × IsOfFiles status blame × Counts (is_source blame) shelf shelf'
+    × Counts (is_image blame) maker maker'
 
 -- over the shelf, which stands in the source's place
 pub record CountsOnShelf (dumps : Bool) (status : Status)

@@ -27,6 +27,7 @@ pub mod FilesWork
 pub mod FilesHeadline
 pub mod SplitWork
 pub mod SplitHeadline
+pub mod UnpackRuns
 pub mod ShelfRuns
 pub mod OutputTold
 pub mod ReadHeadline

@@ -8,7 +8,9 @@ use Rattle.flux_cli.specs.BytesWork.{of_bytes}
 use Rattle.flux_cli.specs.FolderRuns.{DoesFolder}
 use Rattle.flux_cli.specs.MakingWork.{Makes}
 use Rattle.flux_cli.specs.Runs.{Does}
+use Rattle.flux_cli.specs.UnpackRuns.{Unpacks}
 use Rattle.flux_cli.specs.Works.{Row, row_for, with_bytes, with_files, with_folder, with_maker}
+use Rattle.flux_cli.specs.Works.{with_unpacking}
 use Rattle.flux_cli.specs.World.{World, on_shelf, on_source}
 
 -- The source is not touched where the shelf is read, and the shelf is not where the source may be.
@@ -26,6 +28,9 @@ DoesRow (with_folder format folder) status before after =
 DoesRow (with_maker work) status before after =
     Makes work status before after
     × (after.shelf ≡ before.shelf) × (after.image ≡ before.image)
+DoesRow (with_unpacking file folder) status before after =
+    Unpacks file folder status before after
+    × (after.source ≡ before.source) × (after.image ≡ before.image)
 
 -- what a run with these words did
 pub record Ran {S W N H M : Type 0} (words : List (List ℕ)) (status : Status)

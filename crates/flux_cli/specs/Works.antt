@@ -10,7 +10,7 @@ use Rattle.sector_images.specs.declared.format.Format.{Format}
 use Rattle.flux_words.specs.Asked.{Asked, the_turns, some_streams, a_folder, some_dumps, a_sector}
 use Rattle.flux_words.specs.Asked.{an_identity, told_files, written_streams, a_trial, a_g64_file}
 use Rattle.flux_words.specs.Asked.{an_image_of_g64, an_imd_file, a_page}
-use Rattle.flux_words.specs.Asked.{written_files, split_streams}
+use Rattle.flux_words.specs.Asked.{written_files, split_streams, unpacked_file}
 use Rattle.flux_words.specs.CommandWords.{AskFor}
 use Rattle.flux_words.specs.declared.commands.Way.{Way}
 use Rattle.flux_words.specs.declared.commands.Way.TheVariants.{Once, Often, ByBothClocks}
@@ -58,12 +58,14 @@ usage_work text = record {
 }
 
 -- What there is to do: with the bytes of the source, with the files of the shelf, with those of a
--- folder there, or, to make files, with the bytes of the source and what makes them.
+-- folder there; or, to make files, with the bytes of the source and what makes them, or with a file
+-- of the shelf, which is unpacked.
 pub data Row : Type 1 where
   with_bytes : BytesWork → Row
   with_files : Work ShelfNow → Row
   with_folder : Format → (folder : List ℕ) → Row
   with_maker : MakingWork → Row
+  with_unpacking : (file folder : List ℕ) → Row
 
 -- by what plan streams are read
 abbrev pub plan_of : Way → Plan
@@ -86,6 +88,7 @@ row_of (an_imd_file asked) =
 row_of (written_streams format) = with_bytes (write_work format)
 row_of (written_files format folder) = with_maker (files_work format folder)
 row_of (split_streams folder heads) = with_maker (split_work folder heads)
+row_of (unpacked_file file folder) = with_unpacking file folder
 row_of (a_trial format seed) = with_bytes (trial_work format seed)
 row_of (a_g64_file disk) = with_bytes (to_g64_work (format_of disk))
 row_of (an_image_of_g64 disk) = with_bytes (from_g64_work (format_of disk))

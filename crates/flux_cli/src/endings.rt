@@ -147,7 +147,7 @@ pub(crate) fn end_of_split<N: Sink>(
 }
 
 /// Writes the line that says what was not made. The status tells it too, whatever becomes of the line.
-fn tell_unmade<N: Sink>(line: &Line, notes: &mut N) -> Status
+pub(crate) fn tell_unmade<N: Sink>(line: &Line, notes: &mut N) -> Status
     ensures { TellsUnmade line.now.bytes result (sink_at N.Sink notes.old) (sink_at N.Sink notes.new) }
 {
     let _ = write_line(notes, line);

@@ -17,6 +17,7 @@ mod read;
 mod shelf_task;
 mod task;
 mod turns;
+mod unpack;
 
 pub use laws::{
     identity_outcomes_are_one, info_outcomes_are_one, outcomes_are_one, read_outcomes_are_one,

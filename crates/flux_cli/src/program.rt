@@ -9,6 +9,7 @@ use crate::files::{Split, WriteFiles};
 use crate::output_told::tell_output;
 use crate::shelf_task::{DecodeFolder, Identify, Info};
 use crate::task::{FromG64, Task, Tell, ToG64, Trial, Turns, Write};
+use crate::unpack::Unpack;
 use disk_map::dumps_are_drawn_as_reported;
 use file_maker::FileMaker;
 use flux_base::{Sink, Source, Status, Word};
@@ -52,7 +53,7 @@ pub fn run<S: Source, W: Sink, N: Sink, H: Shelf, M: FileMaker>(
     // A fault is told where that object failed once, in the last call of all that could, and no other one failed; and a
     // run that finished had none. But under words that read dumps the shelf failed as often as files did that were
     // passed over, and the notes may have failed once too in the line behind a fault of the output, or of what makes
-    // files.
+    // files; and where a file is unpacked, a fault may be told of a file that is there, for which none failed.
     ensures counts { CountsOfRun (reads_dumps words.now) (makes_files words.now) (is_told words.now result) result
         (world_counts (world_at S.Source W.Sink N.Sink H.Source H.Shelf.own M.FileMaker
         source.old image.old notes.old shelf.old maker.old))
@@ -130,6 +131,9 @@ fn run_words<S: Source, W: Sink, N: Sink, H: Shelf, M: FileMaker>(
         }
         Some(Command::Split(folder, heads)) => {
             Split { folder, heads }.run(alloc, source, image, notes, shelf, maker)
+        }
+        Some(Command::Unpack(file, folder)) => {
+            Unpack { file, folder }.run(alloc, source, image, notes, shelf, maker)
         }
         Some(Command::Write(format)) => Write { format }.run(
             alloc, source, image, notes, shelf, maker,

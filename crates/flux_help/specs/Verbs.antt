@@ -6,18 +6,19 @@ use Rattle.std.specs.Option.{option_and_then}
 use Rattle.std.specs.Str.{bytes_eq}
 use Rattle.flux_help.specs.declared.verb.TheConstants.{IDENTIFY, IMD, INFO, READ, SHOW, DECODE_FOLDER}
 use Rattle.flux_help.specs.declared.verb.TheConstants.{DECODE_SET, RESCUE, DECODE, REPORT, MAP}
-use Rattle.flux_help.specs.declared.verb.TheConstants.{WRITE, SPLIT, TURNS, TO_G64, FROM_G64, TRIAL, HELP}
+use Rattle.flux_help.specs.declared.verb.TheConstants.{WRITE, SPLIT, UNPACK, TURNS, TO_G64, FROM_G64, TRIAL}
+use Rattle.flux_help.specs.declared.verb.TheConstants.{HELP}
 use Rattle.flux_help.specs.declared.verb.Texts.{Texts}
 use Rattle.flux_help.specs.declared.verb.Verb.{Verb}
 use Rattle.flux_help.specs.declared.verb.Verb.TheVariants.{Identify, Imd, Info, Read, Show, DecodeFolder}
 use Rattle.flux_help.specs.declared.verb.Verb.TheVariants.{DecodeSet, Rescue, Decode, Report, Map}
-use Rattle.flux_help.specs.declared.verb.Verb.TheVariants.{Write, Split, Turns, ToG64, FromG64, Trial}
-use Rattle.flux_help.specs.declared.verb.Verb.TheVariants.{Help}
+use Rattle.flux_help.specs.declared.verb.Verb.TheVariants.{Write, Split, Unpack, Turns, ToG64}
+use Rattle.flux_help.specs.declared.verb.Verb.TheVariants.{FromG64, Trial, Help}
 
 -- all commands, in the order in which the help lists them
 abbrev pub verbs : List Verb
 verbs = Identify ∷ Info ∷ Imd ∷ Read ∷ Show ∷ DecodeFolder ∷ DecodeSet ∷ Rescue ∷ Decode ∷ Report
-    ∷ Map ∷ Write ∷ Split ∷ Turns ∷ ToG64 ∷ FromG64 ∷ Trial ∷ Help ∷ []
+    ∷ Map ∷ Write ∷ Split ∷ Unpack ∷ Turns ∷ ToG64 ∷ FromG64 ∷ Trial ∷ Help ∷ []
 
 -- its first word
 unfoldable pub verb_word : Verb → List ℕ
@@ -34,6 +35,7 @@ verb_word Report = codes "report"
 verb_word Map = codes "map"
 verb_word Write = codes "write"
 verb_word Split = codes "split"
+verb_word Unpack = codes "unpack"
 verb_word Turns = codes "turns"
 verb_word ToG64 = codes "to-g64"
 verb_word FromG64 = codes "from-g64"
@@ -55,6 +57,7 @@ verb_texts Report = REPORT
 verb_texts Map = MAP
 verb_texts Write = WRITE
 verb_texts Split = SPLIT
+verb_texts Unpack = UNPACK
 verb_texts Turns = TURNS
 verb_texts ToG64 = TO_G64
 verb_texts FromG64 = FROM_G64
@@ -78,6 +81,7 @@ is_own Show = true
 is_own Rescue = true
 is_own Map = true
 is_own Split = true
+is_own Unpack = true
 is_own Help = true
 is_own _ = false
 
@@ -89,6 +93,7 @@ asks_format Info = false
 asks_format Imd = false
 asks_format Show = false
 asks_format Split = false
+asks_format Unpack = false
 asks_format Turns = false
 asks_format Help = false
 asks_format _ = true

@@ -32,6 +32,8 @@ pub enum Verb {
     Write,
     /// Joined streams to files.
     Split,
+    /// An SCP file to streams, as files.
+    Unpack,
     /// One stream to its transitions and revolutions.
     Turns,
     /// An image to a G64 file.
@@ -45,7 +47,7 @@ pub enum Verb {
 }
 
 /// All commands, in the order in which the help lists them.
-const VERBS: [Verb; 18] = [
+const VERBS: [Verb; 19] = [
     Verb::Identify,
     Verb::Info,
     Verb::Imd,
@@ -59,6 +61,7 @@ const VERBS: [Verb; 18] = [
     Verb::Map,
     Verb::Write,
     Verb::Split,
+    Verb::Unpack,
     Verb::Turns,
     Verb::ToG64,
     Verb::FromG64,
@@ -269,6 +272,20 @@ Example:
 ",
 };
 
+const UNPACK: Texts<&str> = Texts {
+    word: "unpack",
+    line: "   unpack DISK.scp FOLDER       an SCP file to streams, as files\n",
+    usage: "usage: flux unpack DISK.scp FOLDER\n",
+    about: "
+Makes a file trackCC.H.raw, a KryoFlux stream, of each track of an SCP file in the folder, which is made: every other command
+reads them. Where such a file is there already, none is written. Notes tell each track that is refused or ends early, and
+how many files were made.
+
+Example:
+   flux unpack disk.scp dump
+",
+};
+
 const TURNS: Texts<&str> = Texts {
     word: "turns",
     line: "   turns                        one stream to its transitions and the length of each revolution\n",
@@ -361,6 +378,7 @@ impl Verb {
                 | Verb::Rescue
                 | Verb::Map
                 | Verb::Split
+                | Verb::Unpack
                 | Verb::Help
         )
     }
@@ -378,6 +396,7 @@ impl Verb {
                 | Verb::Imd
                 | Verb::Show
                 | Verb::Split
+                | Verb::Unpack
                 | Verb::Turns
         )
     }
@@ -404,6 +423,7 @@ impl Verb {
             Verb::Map => MAP,
             Verb::Write => WRITE,
             Verb::Split => SPLIT,
+            Verb::Unpack => UNPACK,
             Verb::Turns => TURNS,
             Verb::ToG64 => TO_G64,
             Verb::FromG64 => FROM_G64,

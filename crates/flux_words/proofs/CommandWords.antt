@@ -5,10 +5,10 @@ use Rattle.flux_help.specs.Verbs.{verb_of}
 use Rattle.flux_help.specs.declared.page.Page.{Page}
 use Rattle.flux_help.specs.declared.page.Page.TheVariants.{Help as AllPages, Version, About}
 use Rattle.flux_help.specs.declared.verb.Verb.{Verb}
-use Rattle.flux_help.specs.declared.verb.Verb.TheVariants.{Identify, Imd, Info, Read, Show, DecodeFolder, DecodeSet, Rescue, Decode, Report, Map, Write, Split, Turns, ToG64, FromG64, Trial, Help}
+use Rattle.flux_help.specs.declared.verb.Verb.TheVariants.{Identify, Imd, Info, Read, Show, DecodeFolder, DecodeSet, Rescue, Decode, Report, Map, Write, Split, Unpack, Turns, ToG64, FromG64, Trial, Help}
 use Rattle.sector_images.specs.Formats.{WordsBeginWithLetters, WordsNameFormats}
 use Rattle.sector_images.specs.declared.format.Format.{Format}
-use Rattle.flux_words.specs.Asked.{Asked, a_folder, some_dumps, a_sector, an_identity, an_imd_file, told_files, written_streams, written_files, split_streams, a_trial, a_g64_file, an_image_of_g64, a_page}
+use Rattle.flux_words.specs.Asked.{Asked, a_folder, some_dumps, a_sector, an_identity, an_imd_file, told_files, written_streams, written_files, split_streams, unpacked_file, a_trial, a_g64_file, an_image_of_g64, a_page}
 use Rattle.flux_words.specs.CommandWords.{AreBehind, AreByVerb, AreFilesWords, AreStreams, AskFor, AskOnce, IsDashed, IsFormat, IsFormatWith, IsOfHeads, IsPageWord, streams_of}
 use Rattle.stream_files.specs.declared.heads.Heads.{Heads}
 use Rattle.stream_files.specs.declared.heads.Heads.TheVariants.{One, Two}
@@ -114,6 +114,9 @@ module _ (names : WordsNameFormats) (letters : WordsBeginWithLetters) where
         let word = head-same _ _ _ _ (tail-same _ _ _ _ (sym p.3 ∙ q.3)) in
         p.6 ∙ ap (split_streams p.0) (one_heads p.2 q.2 p.1 p.4 (subst (IsOfHeads q.2) (sym word) q.4))
         ∙ ap (λ (folder : List ℕ). split_streams folder q.2) (head-same _ _ _ _ (sym p.3 ∙ q.3)) ∙ sym q.6
+    one_behind Unpack a b p q =
+        p.5 ∙ ap (λ (file : List ℕ). unpacked_file file p.1) (head-same _ _ _ _ (sym p.2 ∙ q.2))
+        ∙ ap (unpacked_file q.0) (head-same _ _ _ _ (tail-same _ _ _ _ (sym p.2 ∙ q.2))) ∙ sym q.5
     one_behind Trial a b p q =
         let seed : p.2 ≡ q.2 = sym p.4.value ∙ ap (digits_value 10) (same_last p.0 q.0 p.1 q.1 p.3 q.3) ∙ q.4.value in
         p.5 ∙ ap (a_trial p.0) seed ∙ ap (λ (f : Format). a_trial f q.2) (same_format_with p.0 q.0 p.1 q.1 p.3 q.3) ∙ sym q.5

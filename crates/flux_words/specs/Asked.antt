@@ -9,7 +9,7 @@ use Rattle.flux_words.specs.SectorWords.{AskedSector, asked_sector}
 use Rattle.flux_words.specs.declared.commands.Command.{Command}
 use Rattle.flux_words.specs.declared.commands.Command.TheVariants.{Turns, Streams, Folder, Dumps}
 use Rattle.flux_words.specs.declared.commands.Command.TheVariants.{Sector, Identify, Imd, Info, Write}
-use Rattle.flux_words.specs.declared.commands.Command.TheVariants.{WriteFiles, Split}
+use Rattle.flux_words.specs.declared.commands.Command.TheVariants.{WriteFiles, Split, Unpack}
 use Rattle.flux_words.specs.declared.commands.Command.TheVariants.{Trial, ToG64, FromG64, Tell}
 use Rattle.flux_words.specs.declared.commands.StreamsAsked.{StreamsAsked}
 use Rattle.flux_words.specs.declared.g64_disk.G64Disk.{G64Disk}
@@ -37,6 +37,8 @@ pub data Asked : Type 0 where
   written_files : Format → (folder : List ℕ) → Asked
   -- joined streams, as files of a folder, of a disk of so many heads
   split_streams : (folder : List ℕ) → Heads → Asked
+  -- the tracks of an SCP file, as files of a folder
+  unpacked_file : (file folder : List ℕ) → Asked
   a_trial : Format → (seed : ℕ) → Asked
   -- the file that emulators keep of an image, and the image of such a file
   a_g64_file : G64Disk → Asked
@@ -56,6 +58,7 @@ asked_of (Imd asked) = an_imd_file (asked_imd asked)
 asked_of (Write format) = written_streams format
 asked_of (WriteFiles format folder) = written_files format folder.now
 asked_of (Split folder heads) = split_streams folder.now heads
+asked_of (Unpack file folder) = unpacked_file file.now folder.now
 asked_of (Trial format seed) = a_trial format seed
 asked_of (ToG64 disk) = a_g64_file disk
 asked_of (FromG64 disk) = an_image_of_g64 disk

@@ -7,8 +7,8 @@ use Rattle.flux_help.specs.declared.page.Page.TheVariants.{Help as AllPages, Ver
 use Rattle.flux_help.specs.declared.verb.Verb.{Verb}
 use Rattle.flux_help.specs.declared.verb.Verb.TheVariants.{Identify, Imd, Info, Read, Show, DecodeFolder}
 use Rattle.flux_help.specs.declared.verb.Verb.TheVariants.{DecodeSet, Rescue, Decode, Report, Map}
-use Rattle.flux_help.specs.declared.verb.Verb.TheVariants.{Write, Split, Turns, ToG64, FromG64}
-use Rattle.flux_help.specs.declared.verb.Verb.TheVariants.{Trial, Help}
+use Rattle.flux_help.specs.declared.verb.Verb.TheVariants.{Write, Split, Unpack, Turns, ToG64}
+use Rattle.flux_help.specs.declared.verb.Verb.TheVariants.{FromG64, Trial, Help}
 use Rattle.sector_images.specs.Formats.{IsWordOfFormat}
 use Rattle.sector_images.specs.declared.format.Format.{Format}
 use Rattle.stream_files.specs.declared.heads.Heads.{Heads}
@@ -18,7 +18,7 @@ use Rattle.flux_words.specs.Asked.{Asked, the_turns, some_streams, a_folder, som
 use Rattle.flux_words.specs.Asked.{an_identity, told_files, written_streams, a_trial, a_g64_file}
 use Rattle.flux_words.specs.Asked.{an_imd_file}
 use Rattle.flux_words.specs.Asked.{an_image_of_g64, a_page}
-use Rattle.flux_words.specs.Asked.{written_files, split_streams}
+use Rattle.flux_words.specs.Asked.{written_files, split_streams, unpacked_file}
 use Rattle.flux_words.specs.Counts.{IsCount}
 use Rattle.flux_words.specs.DumpWords.{AskedDumps, AreDumpWords}
 use Rattle.flux_words.specs.G64Disks.{format_of}
@@ -107,6 +107,10 @@ AreBehind Split others asked =
     (folder : List ℕ) × (word : List ℕ) × (heads : Heads) × (others ≡ folder ∷ word ∷ [])
     × IsOfHeads heads word × CanBeMade folder
     × (asked ≡ split_streams folder heads)
+AreBehind Unpack others asked =
+    (file : List ℕ) × (folder : List ℕ) × (others ≡ file ∷ folder ∷ []) × (file ≢ [])
+    × CanBeMade folder
+    × (asked ≡ unpacked_file file folder)
 AreBehind Trial others asked =
     (format : Format) × (number : List ℕ) × (seed : ℕ) × IsFormatWith format number others
     × IsSeed seed number

@@ -3,7 +3,8 @@
 ghost use Rattle.std.specs.Prelude.{◌≡◌, ◌⊎◌, ◌↔◌, IsTrue, ℕ, List, IfNone, IfSome};
 ghost use Rattle.std.specs.Option.{option_map};
 ghost use Rattle.flux_help.specs.declared.verb.Verb.TheVariants.{DecodeFolder, DecodeSet, FromG64, Help, Identify};
-ghost use Rattle.flux_help.specs.declared.verb.Verb.TheVariants.{Imd, Info, Read, Show, Split, ToG64, Trial, Turns, Write};
+ghost use Rattle.flux_help.specs.declared.verb.Verb.TheVariants.{Imd, Info, Read, Show, Split, ToG64, Trial, Turns};
+ghost use Rattle.flux_help.specs.declared.verb.Verb.TheVariants.{Unpack, Write};
 ghost use Rattle.flux_words.specs.Asked.{asked_of};
 ghost use Rattle.flux_words.specs.CommandWords.{AreFilesWords, AreStreams, CanBeMade, IsDump, IsFormat};
 ghost use Rattle.flux_words.specs.CommandWords.{IsFormatInFolder, IsFormatWith, IsOfHeads};
@@ -260,6 +261,22 @@ fn heads_of(word: &[u8]) -> Option<Heads>
         Some(Heads::One)
     } else if word == b"2".as_slice() {
         Some(Heads::Two)
+    } else {
+        None
+    }
+}
+
+/// The tracks of an SCP file as files of a folder.
+pub(crate) fn unpack_behind(others: &[Word]) -> Option<Command<'_>>
+    ensures { AskBehind Unpack others.now (option_map asked_of result) }
+{
+    let [file, folder] = others else {
+        return None;
+    };
+    if file.bytes().is_empty() {
+        None
+    } else if can_be_made(folder) {
+        Some(Command::Unpack(file, folder))
     } else {
         None
     }

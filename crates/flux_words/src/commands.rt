@@ -11,7 +11,7 @@ ghost use Rattle.flux_words.specs.Names.{Names};
 use crate::behind::{
     dump_behind, dumps_behind, folder_behind, from_g64_behind, imd_behind, info_behind,
     page_behind, sector_behind, set_behind, split_behind, streams_behind, to_g64_behind,
-    trial_behind, turns_behind, write_behind,
+    trial_behind, turns_behind, unpack_behind, write_behind,
 };
 use crate::dump_words::DumpsAsked;
 use crate::g64_disk::G64Disk;
@@ -47,6 +47,8 @@ pub enum Command<'a> {
     WriteFiles(Format, &'a Word),
     /// Joined streams as files of a folder, of a disk of so many heads.
     Split(&'a Word, Heads),
+    /// The tracks of an SCP file as files of a folder.
+    Unpack(&'a Word, &'a Word),
     /// The trial that a number names.
     Trial(Format, u32),
     /// The file that emulators keep of a disk, from its image.
@@ -118,6 +120,7 @@ fn command_behind(verb: Verb, others: &[Word]) -> Option<Command<'_>>
         Verb::Map => streams_behind(Way::Once, Output::Picture, others),
         Verb::Write => write_behind(others),
         Verb::Split => split_behind(others),
+        Verb::Unpack => unpack_behind(others),
         Verb::Turns => turns_behind(others),
         Verb::ToG64 => to_g64_behind(others),
         Verb::FromG64 => from_g64_behind(others),

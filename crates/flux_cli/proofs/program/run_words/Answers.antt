@@ -4,7 +4,7 @@ use Rattle.flux_help.specs.WrongWords.{wrong_text}
 use Rattle.flux_base.specs.declared.status.Status.TheVariants.{NotesFault, ShelfFault, Usage}
 use Rattle.flux_base.specs.lemmas.Blaming.{CountsBy-notes}
 use Rattle.flux_engine.specs.lemmas.ReadLaws.{no_reads}
-use Rattle.flux_words.specs.Asked.{the_turns, some_streams, a_folder, some_dumps, a_sector, an_identity, told_files, an_imd_file, written_streams, written_files, split_streams, a_trial, a_g64_file, an_image_of_g64, a_page}
+use Rattle.flux_words.specs.Asked.{the_turns, some_streams, a_folder, some_dumps, a_sector, an_identity, told_files, an_imd_file, written_streams, written_files, split_streams, unpacked_file, a_trial, a_g64_file, an_image_of_g64, a_page}
 use Rattle.flux_words.specs.DumpWords.{asked_dumps}
 use Rattle.flux_words.specs.ImdWords.{asked_imd}
 use Rattle.flux_words.specs.SectorWords.{asked_sector}
@@ -122,6 +122,12 @@ returns-in-Some-Split-clause-ran g c = record { asked = Some (split_streams c.in
 
 pub returns-in-Some-Split-clause-counts : goal.returns-in-Some-Split-clause-counts
 returns-in-Some-Split-clause-counts g c = counts-asked c.args.words.now (split_streams c.in-Some-Split.folder.now c.in-Some-Split.heads) (rw c.in-Some-Split.field-0-is at c.in-Some-Split.ensures) c.run-in-Some-Split.ensures.counts
+
+pub returns-in-Some-Unpack-clause-ran : goal.returns-in-Some-Unpack-clause-ran
+returns-in-Some-Unpack-clause-ran g c = record { asked = Some (unpacked_file c.in-Some-Unpack.file.now c.in-Some-Unpack.folder.now); asks = (rw c.in-Some-Unpack.field-0-is at c.in-Some-Unpack.ensures); did = c.run-in-Some-Unpack.ensures.did }
+
+pub returns-in-Some-Unpack-clause-counts : goal.returns-in-Some-Unpack-clause-counts
+returns-in-Some-Unpack-clause-counts g c = counts-asked c.args.words.now (unpacked_file c.in-Some-Unpack.file.now c.in-Some-Unpack.folder.now) (rw c.in-Some-Unpack.field-0-is at c.in-Some-Unpack.ensures) c.run-in-Some-Unpack.ensures.counts
 
 pub returns-in-Some-Info-clause-ran : goal.returns-in-Some-Info-clause-ran
 returns-in-Some-Info-clause-ran g c = record { asked = Some (told_files c.in-Some-Info.dump.now); asks = (rw c.in-Some-Info.field-0-is at c.in-Some-Info.ensures); did = c.run-in-Some-Info.ensures.did }

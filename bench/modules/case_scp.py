@@ -1,0 +1,71 @@
+"""Cases for compare.py of SCP files: of some tracks, whole or with faults, in a few of all forms."""
+import struct
+
+from case_files import folder_name, most_bytes, what_lies
+from case_streams import one_in
+from plain_files import Outside
+
+TRACKS = [divmod(number, 2) for number in range(168)]
+
+
+def few_values(chance, kinds):
+    """The entries of a revolution."""
+    count = chance.choice([0, 1, 2, 3, 40, chance.randrange(2000)])
+    return [chance.choice([0, 1, 65535, chance.randrange(65536), chance.randrange(100, 400)]) if one_in(chance, 9) else chance.randrange(60, 400)
+            for _ in range(count)]
+
+
+def few_revolution(chance, kinds):
+    """How long it is, and its entries."""
+    values = few_values(chance, kinds)
+    whole = sum(value or 65536 for value in values)
+    return chance.choice([0, 1, 0xFFFFFFFF, chance.randrange(1 << 32), max(0, whole - 50)] if one_in(chance, 6) else [whole, whole + 3]), values
+
+
+def few_track(chance, kinds, number, turns):
+    """The bytes of a track, a few of which are wrong."""
+    heads, data = b"", b""
+    for duration, values in (few_revolution(chance, kinds) for _ in range(turns)):
+        count, offset = len(values), 4 + 12 * turns + len(data)
+        if one_in(chance, 40):
+            kinds.add("a revolution of other numbers")
+            count, offset = chance.choice([(0, offset), (count + 1, offset), (4194304, offset), (4194305, offset), (count, chance.randrange(1 << 32))])
+        heads += struct.pack("<III", duration, count, offset)
+        data += struct.pack(f">{len(values)}H", *values)
+    if one_in(chance, 20):
+        kinds.add("a track of another number or signature")
+        return chance.choice([b"TRK" + bytes([(number + 1) % 256]), b"TRX" + bytes([number])]) + heads + data
+    return b"TRK" + bytes([number]) + heads + data
+
+
+def scp_file(chance, kinds):
+    """A file, a few of which are cut or have other bytes in their header."""
+    turns = chance.choice([0, 1, 2, 3, 5])
+    numbers = sorted(chance.sample(range(168), chance.choice([0, 1, 2, 5])))
+    table = 168 if not one_in(chance, 4) else numbers[-1] + 1 if numbers else 0
+    offsets, body = [0] * table, b""
+    for number in numbers:
+        offsets[number] = 16 + 4 * table + len(body)
+        body += few_track(chance, kinds, number, turns)
+    head = bytearray(b"SCP" + bytes([0x24, 0x80, turns, 0, 167, 1, 0, 0, chance.choice([0, 0, 1, 3, 255])]))
+    if one_in(chance, 12):
+        kinds.add("another header")
+        head[chance.choice([0, 1, 2, 5, 8, 9, 9])] = chance.choice([0, 8, 16, 0x40, 0x41, chance.randrange(256)])
+    file = bytes(head) + bytes(4) + struct.pack(f"<{table}I", *offsets) + body
+    kinds |= {f"{turns} revolutions", f"{len(numbers)} tracks", "a short table" if table < 168 else "a whole table"}
+    if one_in(chance, 5):
+        kinds.add("a file that ends early")
+        return file[: chance.choice([chance.randrange(16), chance.randrange(len(file) + 1), max(0, len(file) - chance.randrange(1, 30))])]
+    return file + (b"a footerFPCS" if one_in(chance, 5) else b"")
+
+
+def case_unpack(chance, kinds, built):
+    """A file that is unpacked, or none."""
+    folder = folder_name(chance, kinds)
+    files = what_lies(chance, kinds, folder, TRACKS) | {b"disk.scp": scp_file(chance, kinds)}
+    words = [b"unpack", b"disk.scp", folder]
+    if one_in(chance, 15):
+        kinds.add("words that unpack nothing")
+        words = chance.choice([words[:2], [*words, b"made"], [b"unpack", b"", folder], [b"unpack", b"disk.scp", b""],
+                               [b"unpack", b"disk.scp", b"side 00.0.raw"], [b"unpack", b"other.scp", folder]])
+    return words, Outside(b"", files, most_bytes(chance, kinds))
