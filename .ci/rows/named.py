@@ -21,6 +21,14 @@ def over(lower, upper, *without):
     return files
 
 
+def with_heads(files, first, second):
+    """The files of a disk whose two heads were captured as these ones."""
+    def moved(program):
+        lower, upper = ({path[:-6]: stream for path, stream in files(program).items() if path.endswith(f".{head}.raw")} for head in (first, second))
+        return {f"{path}.0.raw": stream for path, stream in lower.items()} | {f"{path}.1.raw": stream for path, stream in upper.items()}
+    return moved
+
+
 def alone(files, *track):
     """The file of one track."""
     path = track_file("a", *track)
@@ -52,3 +60,11 @@ def rows():
     yield named("two sizes", over(disk("mfm-dd-4x1x5x1024"), disk("mfm-dd-4x1x9x512@0"), (2, 0), (3, 0)), 1,
                 "mfm-dd-2x1x9x512@0 good 18 of 18 other 10", "mfm-dd-4x1x5x1024 good 10 of 20 other 18", "best mfm-dd-4x1x5x1024")
     yield named("cylinder 90 alone", alone(disk("mfm-dd-91x1x5x1024@0"), 90, 0), 1, "mfm-dd-91x1x5x1024@0 good 5 of 455 other 0", "best mfm-dd-91x1x5x1024@0")
+    # Headers name other heads: a disk that one-sided drives wrote on both sides, and one whose heads were exchanged. No disk of these is read.
+    yield named("both heads named 0", with_heads(disk("mfm-dd-4x1x5x1024@0"), 0, 0), 1, "mfm-dd-4x1x5x1024@0 good 20 of 20 other 20",
+                "mfm-dd-4x2x5x1024@0 names head 0", "best mfm-dd-4x1x5x1024@0")
+    yield named("heads exchanged", with_heads(disk("fm-sd-4x2x10x256@0"), 1, 0), 1, "fm-sd-4x2x10x256@0 names head 1 0", "best none")
+    yield named("both heads named 0, two steps", with_heads(disk("mfm-hd-3x1x11x1024", 2), 0, 0), 1, "--double-step mfm-hd-3x1x11x1024 good 33 of 33 other 33",
+                "--double-step mfm-hd-3x2x11x1024 names head 0", "best --double-step mfm-hd-3x1x11x1024")
+    # The 1581's headers name the other head on each: it has a name.
+    yield named("heads of the 1581", with_heads(disk("mfm-dd-4x2x10x512"), 1, 0), 1, "c1581 good 80 of 1600 other 0", "best c1581")
