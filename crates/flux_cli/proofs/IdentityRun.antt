@@ -20,38 +20,43 @@ use Rattle.flux_cli.proofs.Often.{FailsBy, fails-by, often-either, often-if}
 use Rattle.flux_cli.proofs.ReadRun.{Failed, still-failed}
 use Rattle.flux_cli.proofs.ShelfEnded.{Answers, kept-nothing, one-line, same-kept, same-nothing}
 use Rattle.flux_cli.specs.Blamed.{FailsOften}
-use Rattle.flux_cli.specs.IdentityRuns.{EmptyDump, FailedAsIdentified, IsOutcomeOfDump, best_status, identity_outcome, identity_status, identity_work}
+use Rattle.flux_cli.specs.IdentityRuns.{EmptyDump, FailedAsIdentified, IsOutcomeOfDump, best_status, identity_outcome, identity_status, identity_work, told_status}
 use Rattle.flux_cli.specs.ShelfWork.{TellsEmpty, empty_outcome}
 use Rattle.flux_cli.specs.Work.{Growth, Outcome}
 
 -- whether files failed, and whether one disk explains all
 pub identity-done : (identity : Identity) → IsDone (identity_status identity)
-identity-done identity = by identity.failed identity.best
+identity-done identity = by identity.failed identity.foreign identity.best
   where
     by_all : (b : Bool) → IsDone (if b then AllGood else NotAllGood)
     by_all true = tt
     by_all false = tt
 
-    by : (failed : Bool) (best : Option Finding) → IsDone (if failed then ShelfFault else best_status best)
-    by true best = tt
-    by false None = tt
-    by false (Some best) = by_all (is_complete best)
+    by : (failed foreign : Bool) (best : Option Finding) → IsDone (if failed then ShelfFault else if foreign then NotAllGood else best_status best)
+    by true foreign best = tt
+    by false true best = tt
+    by false false None = tt
+    by false false (Some best) = by_all (is_complete best)
 
 best_often : (best : Option Finding) (often : ℕ) → often ≡ 0 → FailsOften (best_status best) often
 best_often None often none = none
 best_often (Some best) often none = often-either (is_complete best) often none
 
+told_often : (foreign : Bool) (best : Option Finding) (often : ℕ) → often ≡ 0 → FailsOften (if foreign then NotAllGood else best_status best) often
+told_often true best often none = none
+told_often false best often none = best_often best often none
+
 identity_often : (identity : Identity) (often : ℕ) → FailsBy identity.failed often → FailsOften (identity_status identity) often
-identity_often identity often fails = often-if identity.failed (best_status identity.best) often fails (best_often identity.best often)
+identity_often identity often fails = often-if identity.failed (told_status identity) often fails (told_often identity.foreign identity.best often)
 
 -- one of two readings fails
 either-fails : (a : Bool) (often more : ℕ) → FailsBy a often → FailsBy (a || nat_lt 0 more) (often + more)
 either-fails true often more some = omega (arith, some)
 either-fails false often more none = subst (λ (n : ℕ). FailsBy (nat_lt 0 more) n) (omega (arith, none)) (fails-by more)
 
--- What the shelf did as all files came twice: so many failed.
+-- What the shelf did as all files came, once or twice: so many failed.
 record Lost (dump : List ℕ) (start now : ShelfNow) (files : AllCame dump start now) : Type 0 where
-  pub many : CountsMany (lost_count files.finds.came + lost_count files.came) start.counts now.counts
+  pub many : CountsMany (lost_count files.came + lost_count files.again) start.counts now.counts
   pub paths : List (List ℕ)
   pub told : now.told ≡ with_failed paths start.told
 
@@ -61,9 +66,9 @@ both-told start mid now paths more first second = second ∙ ap (with_failed mor
 module _ (dump : List ℕ) where
   both-lost : (start now : ShelfNow) (files : AllCame dump start now) → Lost dump start now files
   both-lost start now files = record {
-    many = counts-both (lost_count files.finds.came) (lost_count files.came) files.finds.have.counts files.have.counts;
+    many = counts-both (lost_count files.came) (lost_count files.again) files.have.counts files.have_again.counts;
     paths = _;
-    told = both-told start.told files.between.told now.told _ _ files.finds.have.told files.have.told;
+    told = both-told start.told files.between.told now.told _ _ files.have.told files.have_again.told;
   }
 
   pub identity-failed : (start now : ShelfNow) (lines lines' : Option (List ℕ)) (answer : Result Identity (Stopped NoFiles)) → SaysOfIdentity dump start now lines lines' answer
@@ -71,14 +76,14 @@ module _ (dump : List ℕ) where
   identity-failed start now lines lines' (Ok identity) says =
       let files = says.is.files in
       let lost = both-lost start now files in
-      let often : ℕ = lost_count files.finds.came + lost_count files.came in
-      let is : Identity = identity_of files.numbers.failed files.came says.is.findings in
+      let often : ℕ = lost_count files.came + lost_count files.again in
+      let is : Identity = identity_of files.came files.again says.is.findings files.numbers.foreign.items in
       let same : identity ≡ is = says.identity_is ∙ ap (λ (o : Identified). o.identity) says.is.is in
-      let first : FailsBy files.numbers.failed (lost_count files.finds.came) = subst (λ (b : Bool). FailsBy b (lost_count files.finds.came)) (sym files.finds.failed) (fails-by (lost_count files.finds.came)) in
       record {
         often = often;
         fails = subst (λ (i : Identity). FailsOften (identity_status i) often) (sym same)
-            (identity_often is often (either-fails files.numbers.failed (lost_count files.finds.came) (lost_count files.came) first));
+            (identity_often is often
+            (either-fails (nat_lt 0 (lost_count files.came)) (lost_count files.came) (lost_count files.again) (fails-by (lost_count files.came))));
         many = lost.many;
         paths = lost.paths;
         told = lost.told;
@@ -87,8 +92,8 @@ module _ (dump : List ℕ) where
   identity-failed start now lines lines' (Err ReadFault) never = absurd never
   identity-failed start now lines lines' (Err ImageFault) says =
       elim says [
-        | inl line ↦ (let lost = both-lost start now line.files in record { often = lost_count line.files.finds.came + lost_count line.files.came; fails = tt; many = lost.many; paths = lost.paths; told = lost.told })
-        | inr best ↦ (let lost = both-lost start now best.files in record { often = lost_count best.files.finds.came + lost_count best.files.came; fails = tt; many = lost.many; paths = lost.paths; told = lost.told })
+        | inl line ↦ (let lost = both-lost start now line.files in record { often = lost_count line.files.came + lost_count line.files.again; fails = tt; many = lost.many; paths = lost.paths; told = lost.told })
+        | inr end ↦ (let lost = both-lost start now end.files in record { often = lost_count end.files.came + lost_count end.files.again; fails = tt; many = lost.many; paths = lost.paths; told = lost.told })
       ]
   identity-failed start now lines lines' (Err NotesFault) says = absurd says
 
