@@ -1,7 +1,7 @@
 -- What `imd` did by what was said of the dumps.
 use Rattle.std.specs.Prelude.{◌&&◌, cond, count_by, flat_map, nat_lt, not}
 use Rattle.std.proofs.lemmas.List.Sums.{sum_by-append, sum_by-cons}
-use Rattle.std.proofs.Common.{◌≡◌, ◌<◌, ◌+◌, ◌++◌, ℕ, zero, suc, Bool, List, [], ◌∷◌, length, take, get_or, Option, Some, None, Result, Ok, Err, inl, inr, refl, sym, ap, ◌∙◌, subst, arith}
+use Rattle.std.proofs.Common.{◌≡◌, ◌<◌, ◌≤◌, ◌+◌, ◌++◌, ℕ, zero, suc, Bool, List, [], ◌∷◌, length, take, get_or, Option, Some, None, Result, Ok, Err, inl, inr, refl, sym, ap, ◌∙◌, subst, arith}
 use Rattle.std.proofs.lemmas.List.{take_all, take_more}
 use Rattle.std.proofs.lemmas.List.Sums.{sum_by_push}
 use Rattle.std.specs.Io.KnownBytes.{Appends}
@@ -24,6 +24,7 @@ use Rattle.sector_report.specs.declared.dump_lines.Passed.TheVariants.{Absent, F
 use Rattle.track_shelf.specs.Files.{File}
 use Rattle.track_shelf.specs.declared.stepping.Stepping.{Stepping}
 use Rattle.imd_image.specs.Reaches.{IsWithout}
+use Rattle.flux_base.specs.declared.status.Status.{Status}
 use Rattle.flux_cli.proofs.EndingLaws.{IsDone, done-if}
 use Rattle.flux_cli.proofs.Often.{fails-by, often-either, often-if}
 use Rattle.flux_cli.proofs.ReadRun.{Failed, still-failed}
@@ -79,7 +80,7 @@ failed_many (streams ∷ came) (found ∷ founds) many told =
     ∙ sym (sum_by-append (λ (s : Seen). cond (is_failed s.passed) 1 0) streams (flat_map (λ streams. streams) came))
 
 module _ (asked : DumpsAsked) (start now : ShelfNow) where
-  abbrev by : ImdTotals → _
+  abbrev by : ImdTotals → Status
   by = imd_status asked.stepping
 
   pub imd-failed : (file file' notes notes' : Option (List ℕ)) (answer : Result ImdTotals (Stopped NoFiles)) → SaysOfImd asked start now file file' notes notes' answer
