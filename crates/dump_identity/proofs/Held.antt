@@ -3,7 +3,7 @@ use Rattle.std.proofs.Common.{◌≡◌, ◌≤◌, ◌<◌, ◌⊎◌, ◌+◌,
 use Rattle.std.specs.Prelude.{IfSome, get_or, is_none, not}
 use Rattle.std.specs.Option.{is_some}
 use Rattle.std.proofs.lemmas.Bool.{cases_lt}
-use Rattle.std.proofs.lemmas.List.{get_or_append_left, get_or_default, get_or_push}
+use Rattle.std.proofs.lemmas.List.{get_or_append_left, get_or_default, get_or_push, length_push}
 use Rattle.flux_engine.specs.declared.plan.Clocks.TheVariants.{Both}
 use Rattle.sector_images.specs.declared.format.Format.{Format}
 use Rattle.track_shelf.specs.Files.{File}
@@ -42,6 +42,10 @@ is-held dump told disk found held is names stepping format named stepped formatt
     (subst (λ (ns : List (List ℕ)). ToldFirst told ns disk.stepping disk.format found) named
     (subst (λ (s : Stepping). ToldFirst told names s disk.format found) stepped (subst (λ (f : Format). ToldFirst told names stepping f found) formatted first)))
     (subst (λ (ns : List (List ℕ)). IfSome found (λ n. n < length ns)) named low)
+
+-- one more was appended
+pub many-more : (held more : List Bool) (here : Bool) → more ≡ held ++ here ∷ [] → (n : ℕ) → length held ≡ n → length more ≡ n + 1
+many-more held more here grew n many = ap (λ (hs : List Bool). length hs) grew ∙ length_push held here ∙ ap (λ (k : ℕ). k + 1) many
 
 -- one disk more was looked at
 module _ (dump : List ℕ) (told : Option (List File)) (disks : List TalliedDisk) (held : List Bool) (n : ℕ) (many : length held ≡ n) (here : Bool) where

@@ -1,27 +1,24 @@
 -- The files, and which of them failed, decide what is said of a dump.
-use Rattle.std.proofs.Common.{◌≡◌, ◌≤◌, ◌<◌, ◌⊎◌, ◌+◌, inl, inr, ℕ, zero, suc, true, false, Bool, List, [], ◌∷◌, ◌++◌, length, map, Option, None, Some, arith, refl, sym, ap, subst, ◌∙◌}
-use Rattle.std.specs.Prelude.{All, ◌||◌, cond, get_or, nat_lt, sum_by}
+use Rattle.std.proofs.Common.{◌≡◌, ◌≤◌, ◌<◌, ◌⊎◌, ◌+◌, inl, inr, ℕ, zero, suc, true, false, Bool, List, [], ◌∷◌, ◌++◌, length, Option, None, Some, arith, refl, sym, ap, subst, ◌∙◌}
+use Rattle.std.specs.Prelude.{if◌then◌else◌, ◌||◌, cond, nat_eq, nat_lt, not}
 use Rattle.std.proofs.lemmas.Bool.{cases_lt}
-use Rattle.std.proofs.lemmas.List.Elements.{All-head, All-tail}
 use Rattle.std.proofs.lemmas.List.Sums.{sum_by-cons}
 use Rattle.flux_engine.specs.LoopProgress.{lost_count, seen_at}
 use Rattle.flux_engine.specs.Plans.{Seen, is_failed}
 use Rattle.track_shelf.specs.Files.{File}
+use Rattle.told_disks.specs.declared.disks.NumberedDisk.{NumberedDisk}
+use Rattle.told_disks.specs.declared.foreign.ForeignDisk.{ForeignDisk}
 use Rattle.dump_reading.specs.DumpStreams.{FailedAlike}
 use Rattle.dump_reading.specs.Files.{ShelfNow}
 use Rattle.dump_reading.specs.Outcomes.{DumpDisk, DumpsRead, IsDumpsRead}
 use Rattle.dump_reading.specs.declared.totals.DumpTotals.{DumpTotals}
-use Rattle.dump_tallies.specs.Files.{AreOfFiles, file_of}
-use Rattle.dump_tallies.specs.Numbers.{AreNumbersOf}
 use Rattle.law_read_dumps.specs.Said.{DumpsAreOne}
-use Rattle.dump_numbers.specs.Found.{FindsDisks}
 use Rattle.dump_numbers.specs.Laws.{NumbersAreOne}
-use Rattle.dump_numbers.specs.declared.finding.NumbersFound.{NumbersFound}
-use Rattle.dump_identity.specs.Candidates.{candidates_with}
-use Rattle.dump_identity.specs.Findings.{AreFindings, CameTo, ComesTo, best_of, disk_as}
+use Rattle.dump_identity.specs.Candidates.{candidates, candidates_with}
+use Rattle.dump_identity.specs.Findings.{AreFindings, ComesTo, best_of, disk_as}
 use Rattle.dump_identity.specs.Laws.{NoFilesAreNoIdentity}
-use Rattle.dump_identity.specs.Lines.{best_text, lines_of}
-use Rattle.dump_identity.specs.Outcomes.{HasNoFiles, HasSomeFile, Identified, IsIdentified, candidates_by, candidates_in}
+use Rattle.dump_identity.specs.Lines.{end_text, lines_of}
+use Rattle.dump_identity.specs.Outcomes.{HasNoFiles, HasSomeFile, Identified, IsIdentified, came_for, candidates_in, files_for}
 use Rattle.dump_identity.specs.declared.candidate.Candidate.{Candidate}
 use Rattle.dump_identity.specs.declared.finding.Finding.{Finding}
 
@@ -74,8 +71,7 @@ everywhere a b many alike n = by (cases_lt n (length a))
     by (inl low) = alike n low (omega (arith, low, many))
     by (inr past) = past-all a n past ∙ sym (past-all b n (omega (arith, past, many)))
 
-module _ (dump : List ℕ) (files : List File) (one : DumpsAreOne) (told told' : Option (List File)) (first : told ≡ Some files) (second : told' ≡ Some files) (came came' : List Seen)
-    (many : length came ≡ length came') (alike : FailedAlike came came') where
+module _ (dump : List ℕ) (files : List File) (one : DumpsAreOne) (told told' : Option (List File)) (first : told ≡ Some files) (second : told' ≡ Some files) where
   one-read : (disk : DumpDisk) (a b : DumpsRead) (p : IsDumpsRead disk told a) (q : IsDumpsRead disk told' b) → FailedAlike p.streams q.streams → FailedAlike p.beside.came q.beside.came → a ≡ b
   one-read disk a b =
       subst (λ (t : Option (List File)). (p : IsDumpsRead disk t a) (q : IsDumpsRead disk told' b) → FailedAlike p.streams q.streams → FailedAlike p.beside.came q.beside.came → a ≡ b) (sym first)
@@ -85,67 +81,81 @@ module _ (dump : List ℕ) (files : List File) (one : DumpsAreOne) (told told' :
       dumps : (d : DumpDisk) (x y : DumpsRead) (p : IsDumpsRead d (Some files) x) (q : IsDumpsRead d (Some files) y) → FailedAlike p.streams q.streams → FailedAlike p.beside.came q.beside.came → x ≡ y
       dumps d x y = one d files x y
 
-  one-totals : (candidate : Candidate) (a b : Option DumpTotals) → ComesTo dump told came candidate a → ComesTo dump told' came' candidate b → a ≡ b
-  one-totals candidate None None x y = refl
-  one-totals candidate None (Some s) x y = absurd (false-true (sym (x files first).0 ∙ y.some files second 0 (omega arith)))
-  one-totals candidate (Some t) None x y = absurd (false-true (sym (y files second).0 ∙ x.some files first 0 (omega arith)))
-  one-totals candidate (Some t) (Some s) x y =
-      ap Some (x.numbers.totals_are ∙ ap (λ (o : DumpsRead). o.totals)
-      (one-read (disk_as dump candidate) x.numbers.outcome y.numbers.outcome x.numbers.is y.numbers.is
-      (selected-alike came came' many _ x.numbers.is.streams y.numbers.is.streams x.numbers.own y.numbers.own (everywhere came came' many alike))
-      (selected-alike came came' many _ x.numbers.is.beside.came y.numbers.is.beside.came x.numbers.beside y.numbers.beside (everywhere came came' many alike))) ∙ sym y.numbers.totals_are)
+  module _ (came came' : List Seen) (many : length came ≡ length came') (alike : FailedAlike came came') where
+    one-totals : (candidate : Candidate) (a b : Option DumpTotals) → ComesTo dump told came candidate a → ComesTo dump told' came' candidate b → a ≡ b
+    one-totals candidate None None x y = refl
+    one-totals candidate None (Some s) x y = absurd (false-true (sym (x files first).0 ∙ y.some files second 0 (omega arith)))
+    one-totals candidate (Some t) None x y = absurd (false-true (sym (y files second).0 ∙ x.some files first 0 (omega arith)))
+    one-totals candidate (Some t) (Some s) x y =
+        ap Some (x.numbers.totals_are ∙ ap (λ (o : DumpsRead). o.totals)
+        (one-read (disk_as dump candidate) x.numbers.outcome y.numbers.outcome x.numbers.is y.numbers.is
+        (selected-alike came came' many _ x.numbers.is.streams y.numbers.is.streams x.numbers.own y.numbers.own (everywhere came came' many alike))
+        (selected-alike came came' many _ x.numbers.is.beside.came y.numbers.is.beside.came x.numbers.beside y.numbers.beside (everywhere came came' many alike))) ∙ sym y.numbers.totals_are)
 
-  one-finding : (f g : Finding) → f.candidate ≡ g.candidate → ComesTo dump told came f.candidate f.totals → ComesTo dump told' came' g.candidate g.totals → f ≡ g
-  one-finding f g same x y =
-      ap (λ (t : Option DumpTotals). record f { totals = t }) (one-totals f.candidate f.totals g.totals x (subst (λ (c : Candidate). ComesTo dump told' came' c g.totals) (sym same) y))
-      ∙ ap (λ (c : Candidate). record g { candidate = c }) same
+    one-finding : (f g : Finding) → f.candidate ≡ g.candidate → ComesTo dump told came f.candidate f.totals → ComesTo dump told' came' g.candidate g.totals → f ≡ g
+    one-finding f g same x y =
+        ap (λ (t : Option DumpTotals). record f { totals = t }) (one-totals f.candidate f.totals g.totals x (subst (λ (c : Candidate). ComesTo dump told' came' c g.totals) (sym same) y))
+        ∙ ap (λ (c : Candidate). record g { candidate = c }) same
 
-  abbrev Mine : Finding → Type 0
-  Mine f = ComesTo dump told came f.candidate f.totals
+  -- those of each reading
+  pub one-findings : (came came' : ℕ → List Seen) → ((k : ℕ) → length (came k) ≡ length (came' k)) → ((k : ℕ) → FailedAlike (came k) (came' k)) → (fs gs : List Finding)
+      → candidates_in fs ≡ candidates_in gs → AreFindings dump told came fs → AreFindings dump told' came' gs → fs ≡ gs
+  one-findings came came' many alike [] [] same x y = refl
+  one-findings came came' many alike [] (g ∷ gs) same x y = absurd (no-first g gs same)
+  one-findings came came' many alike (f ∷ fs) [] same x y = absurd (no-second f fs same)
+  one-findings came came' many alike (f ∷ fs) (g ∷ gs) same x y =
+      ap (λ (h : Finding). h ∷ fs) (one-finding (came 0) (came' 0) (many 0) (alike 0) f g (head f g fs gs same) (x 0 f (omega arith)) (y 0 g (omega arith)))
+      ∙ ap (λ (hs : List Finding). g ∷ hs)
+      (one-findings (λ k. came (suc k)) (λ k. came' (suc k)) (λ k. many (suc k)) (λ k. alike (suc k)) fs gs (tail f g fs gs same) (λ k d low. x (suc k) d (omega (arith, low)))
+      (λ k d low. y (suc k) d (omega (arith, low))))
 
-  abbrev Others : Finding → Type 0
-  Others f = ComesTo dump told' came' f.candidate f.totals
+-- two readings are alike where the first ones and the second ones are
+reading-alike : (a b a' b' : List Seen) → FailedAlike a a' → FailedAlike b b' → (first : Bool) → FailedAlike (if first then a else b) (if first then a' else b')
+reading-alike a b a' b' x y true = x
+reading-alike a b a' b' x y false = y
 
-  pub one-findings : (fs gs : List Finding) → candidates_in fs ≡ candidates_in gs → AreFindings dump told came fs → AreFindings dump told' came' gs → fs ≡ gs
-  one-findings [] [] same x y = refl
-  one-findings [] (g ∷ gs) same x y = absurd (no-first g gs same)
-  one-findings (f ∷ fs) [] same x y = absurd (no-second f fs same)
-  one-findings (f ∷ fs) (g ∷ gs) same x y =
-      ap (λ (h : Finding). h ∷ fs) (one-finding f g (head f g fs gs same) (All-head Mine f fs x) (All-head Others g gs y))
-      ∙ ap (λ (hs : List Finding). g ∷ hs) (one-findings fs gs (tail f g fs gs same) (All-tail Mine f fs x) (All-tail Others g gs y))
+reading-many : (a b a' b' : List Seen) → length a ≡ length a' → length b ≡ length b' → (first : Bool) → length (if first then a else b) ≡ length (if first then a' else b')
+reading-many a b a' b' x y true = x
+reading-many a b a' b' x y false = y
 
--- the files that tell disks by numbers tell the same ones
-module _ (dump : List ℕ) (files : List File) (start now start' now' : ShelfNow) (first : start.told.files ≡ Some files) (second : start'.told.files ≡ Some files) (numbers : NumbersAreOne) where
-  pub one-candidates : (a b : NumbersFound) (one : FindsDisks dump start now a) (other : FindsDisks dump start' now' b) → FailedAlike one.came other.came → candidates_by a ≡ candidates_by b
-  one-candidates a b one other alike = ap candidates_with (numbers dump files start now start' now' first second a b one other alike)
-
-  pub one-failed : (a b : NumbersFound) (one : FindsDisks dump start now a) (other : FindsDisks dump start' now' b) → FailedAlike one.came other.came → a.failed ≡ b.failed
-  one-failed a b one other alike = one.failed ∙ ap (nat_lt 0) (lost-alike one.came other.came (one.all ∙ sym other.all) alike) ∙ sym other.failed
-
-abbrev said : (failed : Bool) (lost : ℕ) → List Finding → Identified
-said failed lost findings = record { lines = lines_of findings ++ best_text (best_of findings); identity = record { best = best_of findings; failed = failed || nat_lt 0 lost } }
+abbrev said : (lost again : ℕ) → List Finding → List ForeignDisk → Identified
+said lost again findings foreign =
+    record {
+      lines = lines_of findings ++ end_text foreign (best_of findings);
+      identity = record { best = best_of findings; failed = nat_lt 0 lost || nat_lt 0 again; foreign = not (nat_eq (length foreign) 0) };
+    }
 
 pub one-identity : (dump : List ℕ) (files : List File) → DumpsAreOne → NumbersAreOne → (start now start' now' : ShelfNow) → start.told.files ≡ Some files → start'.told.files ≡ Some files
-    → (a b : Identified) (one : IsIdentified dump start now a) (other : IsIdentified dump start' now' b) → FailedAlike one.files.finds.came other.files.finds.came
-    → FailedAlike one.files.came other.files.came → a ≡ b
-one-identity dump files dumps numbers start now start' now' first second a b one other alike_found alike =
-    one.is ∙ ap (λ (fs : List Finding). said one.files.numbers.failed (lost_count one.files.came) fs) findings
-    ∙ ap (λ (n : ℕ). said one.files.numbers.failed n other.findings) (lost-alike one.files.came other.files.came many alike)
-    ∙ ap (λ (f : Bool). said f (lost_count other.files.came) other.findings) failed ∙ sym other.is
+    → (a b : Identified) (one : IsIdentified dump start now a) (other : IsIdentified dump start' now' b) → FailedAlike one.files.came other.files.came → FailedAlike one.files.again other.files.again → a ≡ b
+one-identity dump files dumps numbers start now start' now' first second a b one other alike alike_again =
+    one.is ∙ ap (λ (fs : List Finding). said (lost_count one.files.came) (lost_count one.files.again) fs one.files.numbers.foreign.items) findings
+    ∙ ap (λ (ds : List ForeignDisk). said (lost_count one.files.came) (lost_count one.files.again) other.findings ds) disks.1
+    ∙ ap (λ (n : ℕ). said n (lost_count one.files.again) other.findings other.files.numbers.foreign.items) (lost-alike one.files.came other.files.came many alike)
+    ∙ ap (λ (n : ℕ). said (lost_count other.files.came) n other.findings other.files.numbers.foreign.items) (lost-alike one.files.again other.files.again many_again alike_again) ∙ sym other.is
   where
     many : length one.files.came ≡ length other.files.came
     many = one.files.many ∙ sym other.files.many
 
-    candidates_same : candidates_in one.findings ≡ candidates_in other.findings
-    candidates_same =
-        one.all.all ∙ one-candidates dump files start one.files.between start' other.files.between first second numbers one.files.numbers other.files.numbers one.files.finds other.files.finds alike_found
-        ∙ sym other.all.all
+    -- the files tell the same disks by numbers
+    disks : (one.files.numbers.disks.items ≡ other.files.numbers.disks.items) × (one.files.numbers.foreign.items ≡ other.files.numbers.foreign.items)
+    disks =
+        let all = one.files.many in
+        let all' = other.files.many in
+        numbers dump files start.told.files start'.told.files first second one.files.came other.files.came (omega (arith, all)) (omega (arith, all')) one.files.have.are other.files.have.are alike
+        one.files.numbers other.files.numbers one.files.finds other.files.finds
 
-    failed : one.files.numbers.failed ≡ other.files.numbers.failed
-    failed = one-failed dump files start one.files.between start' other.files.between first second numbers one.files.numbers other.files.numbers one.files.finds other.files.finds alike_found
+    many_again : length one.files.again ≡ length other.files.again
+    many_again = one.files.many_again ∙ ap (λ (ds : List NumberedDisk). files_for (length ds)) disks.0 ∙ sym other.files.many_again
+
+    candidates_same : candidates_in one.findings ≡ candidates_in other.findings
+    candidates_same = one.all.all ∙ ap candidates_with disks.0 ∙ sym other.all.all
 
     findings : one.findings ≡ other.findings
-    findings = one-findings dump files dumps start.told.files start'.told.files first second one.files.came other.files.came many alike one.findings other.findings candidates_same one.all.are other.all.are
+    findings =
+        one-findings dump files dumps start.told.files start'.told.files first second (came_for one.files) (came_for other.files)
+        (λ k. reading-many one.files.came one.files.again other.files.came other.files.again many many_again (nat_lt k (length candidates)))
+        (λ k. reading-alike one.files.came one.files.again other.files.came other.files.again alike alike_again (nat_lt k (length candidates))) one.findings other.findings candidates_same
+        one.all.are other.all.are
 
 -- a dump without files has no file
 none-some : (dump : List ℕ) (files : List File) (told told' : Option (List File)) → told ≡ Some files → told' ≡ Some files → HasNoFiles dump told → HasSomeFile dump told' → ⊥

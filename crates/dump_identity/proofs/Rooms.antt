@@ -5,7 +5,7 @@ use Rattle.flux_base.specs.declared.track.TrackId.{TrackId}
 use Rattle.sector_images.specs.Places.{tracks}
 use Rattle.track_shelf.specs.Stepping.{reaches, reaches_all}
 use Rattle.track_shelf.specs.declared.stepping.Stepping.TheVariants.{Single}
-use Rattle.std.proofs.lemmas.List.{map-append, take_all, take_more}
+use Rattle.std.proofs.lemmas.List.{length_push, map-append, take_all, take_more}
 use Rattle.std.proofs.lemmas.List.Concat.{flat_map-append}
 use Rattle.sector_images.specs.Formats.{formats}
 use Rattle.sector_images.specs.declared.format.Format.{Format}
@@ -46,13 +46,26 @@ single-all format = by (tracks format)
     by [] = refl
     by (t ∷ ts) = by ts
 
+-- none by numbers
+pub numbered-none : (before : List TalliedDisk) (told : List NumberedDisk) → before ≡ before ++ map trial_of (map by_numbers (take 0 told))
+numbered-none before told = sym (append-nil before)
+
+-- all by numbers
+pub numbered-all : (before : List TalliedDisk) (told : List NumberedDisk) (i : ℕ) → length told ≤ i → (items : List TalliedDisk) → items ≡ before ++ map trial_of (map by_numbers (take i told))
+    → items ≡ before ++ map trial_of (map by_numbers told)
+numbered-all before told i past items so_far = so_far ∙ ap (λ (ds : List NumberedDisk). before ++ map trial_of (map by_numbers ds)) (take_all i told past)
+
+-- one more was appended
+pub appended : {A : Type 0} (items more : List A) (x : A) → more ≡ items ++ x ∷ [] → length more ≡ length items + 1
+appended items more x grew = ap (λ (ys : List _). length ys) grew ∙ length_push items x
+
 -- one by numbers more
-pub numbered-more : (before : List TalliedDisk) (told : List NumberedDisk) (i : ℕ) (disk : NumberedDisk) → i < length told → disk ≡ get_or told i disk → (items now : List TalliedDisk)
-    → items ≡ before ++ map trial_of (map by_numbers (take i told)) → now ≡ items ++ trial_of (by_numbers disk) ∷ [] → now ≡ before ++ map trial_of (map by_numbers (take (i + 1) told))
-numbered-more before told i disk low is items now so_far grew =
-    grew ∙ ap (λ (ts : List TalliedDisk). ts ++ trial_of (by_numbers disk) ∷ []) so_far
-    ∙ append_assoc before (map trial_of (map by_numbers (take i told))) (trial_of (by_numbers disk) ∷ [])
+pub numbered-more : (before : List TalliedDisk) (told : List NumberedDisk) (i : ℕ) (d : NumberedDisk) → i < length told → (items now : List TalliedDisk) (disk : TalliedDisk)
+    → items ≡ before ++ map trial_of (map by_numbers (take i told)) → disk ≡ trial_of (by_numbers (get_or told i d)) → now ≡ items ++ disk ∷ []
+    → now ≡ before ++ map trial_of (map by_numbers (take (i + 1) told))
+numbered-more before told i d low items now disk so_far is grew =
+    grew ∙ ap (λ (x : TalliedDisk). items ++ x ∷ []) is ∙ ap (λ (ts : List TalliedDisk). ts ++ trial_of (by_numbers (get_or told i d)) ∷ []) so_far
+    ∙ append_assoc before (map trial_of (map by_numbers (take i told))) (trial_of (by_numbers (get_or told i d)) ∷ [])
     ∙ ap (λ (ts : List TalliedDisk). before ++ ts)
-    (sym (map-append trial_of (map by_numbers (take i told)) (by_numbers disk ∷ []))
-    ∙ ap (map trial_of)
-    (sym (map-append by_numbers (take i told) (disk ∷ [])) ∙ ap (map by_numbers) (ap (λ (d : NumberedDisk). take i told ++ d ∷ []) is ∙ sym (take_more told i disk low))))
+    (sym (map-append trial_of (map by_numbers (take i told)) (by_numbers (get_or told i d) ∷ []))
+    ∙ ap (map trial_of) (sym (map-append by_numbers (take i told) (get_or told i d ∷ [])) ∙ ap (map by_numbers) (sym (take_more told i d low))))

@@ -1,5 +1,5 @@
 -- The disks that a dump may be of.
-use Rattle.std.specs.Prelude.{if◌then◌else◌, List, [], ◌∷◌, ◌++◌, flat_map, map}
+use Rattle.std.specs.Prelude.{if◌then◌else◌, ℕ, List, [], ◌∷◌, ◌++◌, flat_map, length, map, nat_lt}
 use Rattle.sector_images.specs.Formats.{formats}
 use Rattle.sector_images.specs.declared.format.Format.{Format}
 use Rattle.sector_images.specs.declared.format.Format.TheVariants.{Numbered}
@@ -29,3 +29,8 @@ by_numbers told = candidate_of told.stepping (Numbered told.disk)
 -- all where the files tell these disks by numbers: those that have names, and these behind them
 abbrev pub candidates_with : (told : List NumberedDisk) → List Candidate
 candidates_with told = candidates ++ map by_numbers told
+
+-- of two readings of a dump, that in which the candidate of this number is tried: the first one for
+-- those that have names
+abbrev pub by_reading : {X : Type 0} → (first again : X) → (number : ℕ) → X
+by_reading first again number = if nat_lt number (length candidates) then first else again

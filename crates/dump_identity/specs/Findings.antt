@@ -1,12 +1,13 @@
 -- What reading a dump as each disk comes to, and which disk is the best.
-use Rattle.std.specs.Prelude.{All, ◌≡◌, ◌&&◌, ◌||◌, ◌*◌, if◌then◌else◌, ℕ, Bool, false, not, nat_eq}
-use Rattle.std.specs.Prelude.{nat_lt, List, find, Option, Some, None}
+use Rattle.std.specs.Prelude.{◌≡◌, ◌<◌, ◌&&◌, ◌||◌, ◌*◌, if◌then◌else◌, ℕ, Bool, false, not}
+use Rattle.std.specs.Prelude.{get_or, length, nat_eq, nat_lt, List, find, Option, Some, None}
 use Rattle.std.specs.List.{list_all}
 use Rattle.std.specs.Option.{is_some}
 use Rattle.sector_images.specs.Formats.{row}
 use Rattle.track_shelf.specs.Files.{File}
 use Rattle.flux_engine.specs.LoopProgress.{lost_count}
 use Rattle.flux_engine.specs.Plans.{Seen}
+use Rattle.told_disks.specs.declared.foreign.ForeignDisk.{ForeignDisk}
 use Rattle.dump_reading.specs.Outcomes.{DumpDisk, IsToldEmpty}
 use Rattle.dump_reading.specs.Totals.{is_complete as are_complete}
 use Rattle.dump_reading.specs.declared.totals.DumpTotals.{DumpTotals}
@@ -36,11 +37,12 @@ abbrev pub ComesTo : (dump : List ℕ) → (told : Option (List File)) → (came
 ComesTo dump told came candidate None = IsEmptyAs dump told candidate
 ComesTo dump told came candidate (Some totals) = CameTo dump told came candidate totals
 
--- what each of some candidates comes to
-abbrev pub AreFindings : (dump : List ℕ) → (told : Option (List File)) → (came : List Seen)
+-- what each of some candidates comes to, by what came of the files in the reading of the one of
+-- each number
+abbrev pub AreFindings : (dump : List ℕ) → (told : Option (List File)) → (came : ℕ → List Seen)
     → List Finding → Type 0
-AreFindings dump told came findings =
-    All (λ f. ComesTo dump told came f.candidate f.totals) findings
+AreFindings dump told came findings = (k : ℕ) (f : Finding) → k < length findings
+    → let here = get_or findings k f in ComesTo dump told (came k) here.candidate here.totals
 
 -- how many sectors are good, and how many other names have whole data
 abbrev pub good_in : Option DumpTotals → ℕ
@@ -96,8 +98,12 @@ complete_in (Some totals) = are_complete totals
 abbrev pub is_complete : Finding → Bool
 is_complete f = complete_in f.totals
 
--- what is known of the dump: the best of some candidates, and whether a file failed as its disks by
--- numbers were found, or as it was read
-abbrev pub identity_of : (failed : Bool) → (came : List Seen) → List Finding → Identity
-identity_of failed came findings =
-    record { best = best_of findings; failed = failed || nat_lt 0 (lost_count came) }
+-- what is known of the dump by these readings: the best of some candidates, whether a file failed,
+-- and whether headers name other heads than the drive's
+abbrev pub identity_of : (came again : List Seen) → List Finding → List ForeignDisk → Identity
+identity_of came again findings foreign =
+    record {
+      best = best_of findings;
+      failed = nat_lt 0 (lost_count came) || nat_lt 0 (lost_count again);
+      foreign = not (nat_eq (length foreign) 0);
+    }

@@ -53,8 +53,8 @@ IdentitiesAreOne = (dump : List ℕ) (files : List File) (start now start' now' 
     → start.told.files ≡ Some files → start'.told.files ≡ Some files
     → (a b : Identified) (one : IsIdentified dump start now a)
     (other : IsIdentified dump start' now' b)
-    → FailedAlike one.files.finds.came other.files.finds.came
-    → FailedAlike one.files.came other.files.came → a ≡ b
+    → FailedAlike one.files.came other.files.came
+    → FailedAlike one.files.again other.files.again → a ≡ b
 
 -- nothing is said of a dump without files
 abbrev pub NoFilesAreNoIdentity : Type 0

@@ -5,6 +5,10 @@ use Rattle.sector_images.specs.Formats.{row}
 use Rattle.track_shelf.specs.declared.stepping.Stepping.{Stepping}
 use Rattle.track_shelf.specs.declared.stepping.Stepping.TheVariants.{Single, Double}
 use Rattle.dump_reading.specs.declared.totals.DumpTotals.{DumpTotals}
+use Rattle.told_disks.specs.declared.foreign.ForeignDisk.{ForeignDisk}
+use Rattle.told_disks.specs.declared.heads.NamedHeads.{NamedHeads}
+use Rattle.told_disks.specs.declared.heads.NamedHeads.TheVariants.{Changed, First, Own}
+use Rattle.dump_identity.specs.Candidates.{by_numbers}
 use Rattle.dump_identity.specs.Findings.{has_good}
 use Rattle.dump_identity.specs.declared.candidate.Candidate.{Candidate}
 use Rattle.dump_identity.specs.declared.finding.Finding.{Finding}
@@ -45,3 +49,19 @@ lines_of findings = flat_map line_of findings
 unfoldable pub best_text : Option Finding → List ℕ
 best_text None = codes "best none\n"
 best_text (Some f) = codes "best " ++ candidate_text f.candidate ++ codes "\n"
+
+-- the heads that a disk's headers name on those of the drive
+abbrev pub heads_text : NamedHeads → List ℕ
+heads_text Own = codes "0 1"
+heads_text First = codes "0"
+heads_text Changed = codes "1 0"
+
+-- the line of a disk whose headers name other heads than the drive's, which is not read
+unfoldable pub foreign_text : ForeignDisk → List ℕ
+foreign_text disk =
+    candidate_text (by_numbers disk.disk) ++ codes " names head " ++ heads_text disk.heads
+    ++ codes "\n"
+
+-- the lines behind those of the disks that were read
+abbrev pub end_text : List ForeignDisk → Option Finding → List ℕ
+end_text foreign best = flat_map foreign_text foreign ++ best_text best

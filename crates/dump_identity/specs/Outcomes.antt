@@ -1,6 +1,6 @@
 -- What saying which disk a dump is of may answer, and what that says of the dump and
 -- of the bytes that were written.
-use Rattle.std.specs.Prelude.{◌≡◌, ◌⊎◌, ℕ, List, [], ◌∷◌, ◌++◌, length, map, Option}
+use Rattle.std.specs.Prelude.{◌≡◌, ◌⊎◌, ℕ, zero, suc, List, [], ◌∷◌, ◌++◌, length, map, Option}
 use Rattle.std.specs.Prelude.{Some, None, Result, Ok, Err}
 use Rattle.std.specs.Io.KnownBytes.{Appends, Keeps}
 use Rattle.flux_engine.specs.Answers.{AppendsAndPart}
@@ -17,9 +17,9 @@ use Rattle.dump_turns.specs.Outcomes.{IsReachTold}
 use Rattle.dump_turns.specs.declared.reach.Reach.{Reach}
 use Rattle.dump_numbers.specs.Found.{FindsDisks}
 use Rattle.dump_numbers.specs.declared.finding.NumbersFound.{NumbersFound}
-use Rattle.dump_identity.specs.Candidates.{candidates_with}
+use Rattle.dump_identity.specs.Candidates.{by_reading, candidates_with}
 use Rattle.dump_identity.specs.Findings.{AreFindings, best_of, identity_of}
-use Rattle.dump_identity.specs.Lines.{best_text, line_of, lines_of}
+use Rattle.dump_identity.specs.Lines.{end_text, line_of, lines_of}
 use Rattle.dump_identity.specs.declared.candidate.Candidate.{Candidate}
 use Rattle.dump_identity.specs.declared.finding.Finding.{Finding}
 use Rattle.dump_identity.specs.declared.identity.Identity.{Identity}
@@ -27,29 +27,42 @@ use Rattle.dump_identity.specs.declared.identity.Identity.{Identity}
 abbrev pub candidates_in : List Finding → List Candidate
 candidates_in findings = map (λ f. f.candidate) findings
 
--- The dump's files were opened between two moments of the shelf: once, and told disks by numbers,
--- and then all that it may have once more, and this came of them. Of what the shelf tells of itself
--- nothing changed, but which of them failed.
+-- how many files are opened for so many disks: all that a dump may have, or none for none
+abbrev pub files_for : (disks : ℕ) → ℕ
+files_for zero = 0
+files_for (suc more) = MOST_FILES
+
+-- The dump's files were opened between two moments of the shelf, all that it may have, and told
+-- these disks by numbers; where they told one, all were opened once more. This came of them each
+-- time. Of what the shelf tells of itself nothing changed, but which of them failed.
 pub record AllCame (dump : List ℕ) (start now : ShelfNow) : Type 0 where
   pub between : ShelfNow
-  pub numbers : NumbersFound
-  pub finds : FindsDisks dump start between numbers
   pub came : List Seen
   pub many : length came ≡ MOST_FILES
-  pub have : HaveComeOf (of_files dump) between now came
+  pub have : HaveComeOf (of_files dump) start between came
+  pub numbers : NumbersFound
+  pub finds : FindsDisks came numbers
+  pub again : List Seen
+  pub many_again : length again ≡ files_for (length numbers.disks.items)
+  pub have_again : HaveComeOf (of_files dump) between now again
 
 -- the candidates where these are the disks by numbers
 abbrev pub candidates_by : NumbersFound → List Candidate
 candidates_by numbers = candidates_with numbers.disks.items
 
+-- what came of the files in the reading of the candidate of each number
+abbrev pub came_for : {dump : List ℕ} {start now : ShelfNow} → AllCame dump start now → ℕ
+    → List Seen
+came_for files = by_reading files.came files.again
+
 -- what all candidates come to, in order
-pub record AreAllFindings (dump : List ℕ) (told : Option (List File)) (came : List Seen)
+pub record AreAllFindings (dump : List ℕ) (told : Option (List File)) (came : ℕ → List Seen)
     (candidates : List Candidate) (findings : List Finding) : Type 0 where
   pub all : candidates_in findings ≡ candidates
   pub are : AreFindings dump told came findings
 
 -- what the first candidates come to
-pub record AreFirstFindings (dump : List ℕ) (told : Option (List File)) (came : List Seen)
+pub record AreFirstFindings (dump : List ℕ) (told : Option (List File)) (came : ℕ → List Seen)
     (candidates : List Candidate) (findings : List Finding) : Type 0 where
   pub behind : List Candidate
   pub first : candidates_in findings ++ behind ≡ candidates
@@ -72,11 +85,12 @@ pub record IsIdentified (dump : List ℕ) (start now : ShelfNow) (o : Identified
   pub some : HasSomeFile dump start.told.files
   pub files : AllCame dump start now
   pub findings : List Finding
-  pub all : AreAllFindings dump start.told.files files.came (candidates_by files.numbers) findings
+  pub all : AreAllFindings dump start.told.files (came_for files)
+      (candidates_by files.numbers) findings
   pub is : o
       ≡ record {
-        lines = lines_of findings ++ best_text (best_of findings);
-        identity = identity_of files.numbers.failed files.came findings;
+        lines = lines_of findings ++ end_text files.numbers.foreign.items (best_of findings);
+        identity = identity_of files.came files.again findings files.numbers.foreign.items;
       }
 
 -- all of it was written
@@ -94,17 +108,19 @@ pub record WroteIntoLine (dump : List ℕ) (start now : ShelfNow)
   pub files : AllCame dump start now
   pub findings : List Finding
   pub next : Finding
-  pub first : AreFirstFindings dump start.told.files files.came
+  pub first : AreFirstFindings dump start.told.files (came_for files)
       (candidates_by files.numbers) (findings ++ next ∷ [])
   pub grew : AppendsAndPart lines lines' (lines_of findings) (line_of next)
 
--- all was written but the last line: of it a part that is shorter than it
-pub record WroteIntoBest (dump : List ℕ) (start now : ShelfNow)
+-- the lines of all candidates were written, and of those behind them a part that is shorter
+pub record WroteIntoEnd (dump : List ℕ) (start now : ShelfNow)
     (lines lines' : Option (List ℕ)) : Type 0 where
   pub files : AllCame dump start now
   pub findings : List Finding
-  pub all : AreAllFindings dump start.told.files files.came (candidates_by files.numbers) findings
-  pub grew : AppendsAndPart lines lines' (lines_of findings) (best_text (best_of findings))
+  pub all : AreAllFindings dump start.told.files (came_for files)
+      (candidates_by files.numbers) findings
+  pub grew : AppendsAndPart lines lines' (lines_of findings)
+      (end_text files.numbers.foreign.items (best_of findings))
 
 -- What an answer says. A dump without files is told before anything is written, as
 -- the first and only one, and nothing of it was read; a file that fails ends
@@ -117,5 +133,5 @@ SaysOfIdentity dump start now lines lines' (Err ReadFault) = ⊥
 SaysOfIdentity dump start now lines lines' (Err (Refused empty)) =
     (empty.dump ≡ 0) × HasNoFiles dump start.told.files × (now ≡ start) × Keeps lines lines'
 SaysOfIdentity dump start now lines lines' (Err ImageFault) =
-    WroteIntoLine dump start now lines lines' ⊎ WroteIntoBest dump start now lines lines'
+    WroteIntoLine dump start now lines lines' ⊎ WroteIntoEnd dump start now lines lines'
 SaysOfIdentity dump start now lines lines' (Err NotesFault) = ⊥

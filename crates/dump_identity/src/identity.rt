@@ -7,4 +7,6 @@ pub struct Identity {
     pub best: Option<Finding>,
     /// Whether one of its files failed as it was opened or read.
     pub failed: bool,
+    /// Whether headers name other heads than the drive's.
+    pub foreign: bool,
 }

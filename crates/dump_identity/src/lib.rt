@@ -1,5 +1,5 @@
-//! Which disk a dump is of: its files tell disks by numbers, then each is read once more, as a track of these and of
-//! each disk that has a name, and what each disk comes to is said.
+//! Which disk a dump is of: its files are read as tracks of each disk that has a name, and once more as tracks of the
+//! disks by numbers that they tell, and what each disk comes to is said.
 #![tactic(auto)]
 
 mod candidate;
@@ -11,6 +11,7 @@ mod lines;
 mod reading;
 mod room;
 mod tried;
+mod trying;
 
 pub use candidate::Candidate;
 pub use finding::Finding;

@@ -2,12 +2,17 @@
 
 ghost use Rattle.std.specs.Prelude.{◌≡◌, ◌≤◌, ◌+◌, ◌++◌, codes};
 ghost use Rattle.arrayvec.specs.ArrayString.{array_string_len};
-ghost use Rattle.dump_identity.specs.Lines.{best_text, candidate_text, failed_text, finding_text, stepping_text};
+ghost use Rattle.dump_identity.specs.Candidates.{by_numbers};
+ghost use Rattle.dump_identity.specs.Lines.{best_text, candidate_text, failed_text, finding_text, foreign_text};
+ghost use Rattle.dump_identity.specs.Lines.{heads_text, stepping_text};
 
 use crate::candidate::Candidate;
 use crate::finding::Finding;
+use dump_numbers::{ForeignDisk, NumberedDisk};
 use dump_reading::DumpTotals;
+use sector_images::Format;
 use sector_report::{Line, put, put_named};
+use told_disks::NamedHeads;
 use track_shelf::Stepping;
 
 /// What a candidate comes to that has a good sector: the words for it that stand behind `read`, and the numbers.
@@ -33,6 +38,42 @@ fn put_failed(line: &mut Line, lost: u32)
 {
     if lost > 0 {
         put_named(line, " failed ", lost);
+    }
+}
+
+/// That the headers of a disk name other heads than the drive's.
+#[tactic(auto, unfolding(crate::specs::Lines::foreign_text))]
+pub(crate) fn foreign_line(foreign: ForeignDisk) -> Line
+    ensures { result.bytes ≡ foreign_text foreign }
+{
+    let mut line = Line::new();
+    put_candidate(&mut line, candidate_of(foreign.disk));
+    put(&mut line, " names head ");
+    put_heads(&mut line, foreign.heads);
+    put(&mut line, "\n");
+    line
+}
+
+/// A disk by its numbers.
+fn candidate_of(disk: NumberedDisk) -> Candidate
+    ensures { result ≡ by_numbers disk }
+{
+    Candidate {
+        stepping: disk.stepping,
+        format: Format::Numbered(disk.disk),
+    }
+}
+
+/// Appends the heads that a disk's headers name on those of the drive.
+fn put_heads(line: &mut Line, heads: NamedHeads)
+    requires { array_string_len line.old + 3 ≤ 192 }
+    ensures bytes { line.new.bytes ≡ line.old.bytes ++ heads_text heads }
+    ensures len { array_string_len line.new ≤ array_string_len line.old + 3 }
+{
+    match heads {
+        NamedHeads::Own => put(line, "0 1"),
+        NamedHeads::First => put(line, "0"),
+        NamedHeads::Changed => put(line, "1 0"),
     }
 }
 

@@ -4,7 +4,7 @@ ghost use Rattle.std.specs.Prelude.{◌≡◌, ◌≤◌, ◌+◌, [], ◌∷◌
 ghost use Rattle.std.specs.Vec.{vec_capacity};
 ghost use Rattle.sector_images.specs.declared.format.Format.TheVariants.{Numbered};
 ghost use Rattle.track_shelf.specs.Stepping.{reaches_all};
-ghost use Rattle.dump_identity.specs.Candidates.{by_numbers, candidates_of};
+ghost use Rattle.dump_identity.specs.Candidates.{by_numbers, candidates, candidates_of};
 ghost use Rattle.dump_identity.specs.Trials.{trial_of};
 
 use dump_numbers::{NumberedDisk, NumbersRoom};
@@ -20,13 +20,14 @@ use track_shelf::Stepping;
 /// The most disks by numbers of which a dump may be: of five rates, each of four sizes by two steps.
 const MOST_BY_NUMBERS: usize = 40;
 
-/// All memory that reading a dump as every disk takes, less than 256 MiB. It serves once.
+/// All memory that reading a dump as every disk takes, less than 128 MiB. It serves once.
 #[derive(Drop)]
 pub struct IdentityRoom {
-    pub(crate) numbers: NumbersRoom,
     pub(crate) stream: SharedStream,
-    /// Why each file that came is passed over, if it is.
+    pub(crate) numbers: NumbersRoom,
+    /// Why each file that came is passed over, if it is, and each that came once more.
     pub(crate) passed: Vec<Option<Passed>>,
+    pub(crate) again: Vec<Option<Passed>>,
     /// All candidates that have names, in order.
     pub(crate) disks: Vec<DiskTally>,
     /// Memory for those by numbers.
@@ -38,6 +39,7 @@ pub struct IdentityRoom {
 impl Model for IdentityRoom {
     ghost use Rattle.std.specs.Prelude.{◌≡◌, ◌≤◌, ◌+◌, [], length, map};
     ghost use Rattle.std.specs.Vec.{vec_capacity};
+    ghost use Rattle.dump_numbers.specs.Sets.{AreNotedTo};
     ghost use Rattle.dump_identity.specs.Candidates.{candidates};
     ghost use Rattle.dump_identity.specs.Trials.{trial_of};
 
@@ -49,32 +51,45 @@ impl Model for IdentityRoom {
         × (length room.disks.items + 40 ≤ vec_capacity room.disks)
         × (length room.spare.items ≡ 40)
         × (room.held.items ≡ []) × (length room.disks.items + 40 ≤ vec_capacity room.held)
-        × (room.passed.items ≡ []) × (200 ≤ vec_capacity room.passed) };
+        × (room.passed.items ≡ []) × (200 ≤ vec_capacity room.passed)
+        × (room.again.items ≡ []) × (200 ≤ vec_capacity room.again)
+        × AreNotedTo [] room.numbers };
 }
 
 impl IdentityRoom {
     /// Takes it. What is in it then is the invariant: all candidates that have names, for none of which a file came, and
     /// room for those by numbers.
     pub fn reserve(alloc: Global) -> Result<IdentityRoom, Memory> {
-        let numbers = NumbersRoom::reserve(alloc)?;
         let stream = SharedStream::reserve(alloc)?;
+        let numbers = NumbersRoom::reserve(alloc)?;
         let passed = Vec::with_capacity(alloc, usize::from(MOST_FILES))?;
-        let mut disks = Vec::new(alloc);
-        for format in all_formats() {
-            push_disks(alloc, *format, &mut disks)?;
-        }
-        disks.reserve(MOST_BY_NUMBERS)?;
+        let again = Vec::with_capacity(alloc, usize::from(MOST_FILES))?;
+        let disks = named_disks(alloc)?;
         let spare = spare_rooms(alloc)?;
         let held = Vec::with_capacity(alloc, disks.capacity())?;
         Ok(IdentityRoom {
-            numbers,
             stream,
+            numbers,
             passed,
+            again,
             disks,
             spare,
             held,
         })
     }
+}
+
+/// All candidates that have names, and room for those by numbers.
+fn named_disks(alloc: Global) -> Result<Vec<DiskTally>, Memory>
+    ensures named { IfOk result (λ disks. disks.items ≡ map trial_of candidates) }
+    ensures room { IfOk result (λ disks. length disks.items + 40 ≤ vec_capacity disks) }
+{
+    let mut disks = Vec::new(alloc);
+    for format in all_formats() {
+        push_disks(alloc, *format, &mut disks)?;
+    }
+    disks.reserve(MOST_BY_NUMBERS)?;
+    Ok(disks)
 }
 
 /// Memory for the candidates by numbers.
@@ -112,8 +127,9 @@ fn push_disk(
     ensures { OnOk result
         (disks.new.items ≡ disks.old.items ++ trial_of (record { stepping = stepping; format = format }) ∷ []) }
 {
+    disks.reserve(1)?;
     let disk = DiskTally::reserve(alloc, stepping, format)?;
-    disks.push(disk)?;
+    disks.push_reserved(disk);
     Ok(())
 }
 

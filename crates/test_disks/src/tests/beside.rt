@@ -156,7 +156,8 @@ fn a_disk_of_one_side_does_not_explain_two(rt: HostRuntime) -> Result<(), Fail> 
         answer,
         Ok(Identity {
             best: Some(best),
-            failed: false
+            failed: false,
+            foreign: false
         })
     );
     assert!(rt; lines.bytes() == SAID);

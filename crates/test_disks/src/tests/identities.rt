@@ -94,7 +94,8 @@ fn the_smallest_disk_is_named(rt: HostRuntime) -> Result<(), Fail> {
         said.answer,
         Ok(Identity {
             best: Some(BEST),
-            failed: false
+            failed: false,
+            foreign: false
         })
     );
     assert!(rt; !BEST.is_complete());
@@ -105,12 +106,14 @@ fn the_smallest_disk_is_named(rt: HostRuntime) -> Result<(), Fail> {
 const NONE: Identity = Identity {
     best: None,
     failed: false,
+    foreign: false,
 };
 
 /// The same where a file failed.
 const NONE_FAILED: Identity = Identity {
     best: None,
     failed: true,
+    foreign: false,
 };
 
 /// The name of the dump, the calls of the shelf that fail, the bytes that the sink takes, what is answered, and what is

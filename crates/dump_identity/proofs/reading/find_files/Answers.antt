@@ -1,6 +1,5 @@
-use Rattle.std.proofs.Common.{◌≡◌, ◌+◌, Bool, List, length, ap, arith, ◌∙◌}
-use Rattle.std.proofs.lemmas.List.{length_push}
-use Rattle.dump_identity.proofs.Held.{held-next}
+use Rattle.std.proofs.Common.{Bool, List, length, ap, arith}
+use Rattle.dump_identity.proofs.Held.{held-next, many-more}
 use Rattle.dump_identity.proofs.reading.find_files.Goals as goal
 
 pub loop-number-init : goal.loop-number-init
@@ -17,10 +16,9 @@ loop-number-preserved g c =
     let held = c.loop-number.held.items in
     let here = c.has_files.result in
     let items = c.push_reserved.ensures.items in
-    let long : length c.push_reserved.new.self.items ≡ length held + 1 = ap length items ∙ length_push held here in
-    let many = so_far.many in record {
-      many = omega (arith, long, many);
+    record {
+      many = many-more held c.push_reserved.new.self.items here items n so_far.many;
       room = (let capacity = c.push_reserved.ensures.capacity in let room = so_far.room in omega (arith, capacity, room));
-      each = rw items (held-next c.args.dump.now (g.H.Shelf.files c.args.shelf.now) c.args.disks.now held n many here so_far.each c.index-disks-number.result c.loop-number-test.true c.index-disks-number.is
+      each = rw items (held-next c.args.dump.now (g.H.Shelf.files c.args.shelf.now) c.args.disks.now held n so_far.many here so_far.each c.index-disks-number.result c.loop-number-test.true c.index-disks-number.is
           c.has_files.ensures);
     }
