@@ -38,7 +38,7 @@ use Rattle.track_shelf.specs.declared.stepping.Stepping.TheVariants.{Single, Dou
 use Rattle.law_numbered_dumps.specs.Headline.{ErasedFilesHaveNoOtherSector, IsFoundInPart, IsFoundOrCovered, with_extent}
 use Rattle.law_numbered_dumps.specs.Inputs.{AreToldBy, CapturesSome, CapturesTrack, HasNoOtherSector, IsQuarter, IsSteppedTo, all_tracks, on_dump}
 use Rattle.law_numbered_dumps.proofs.Listed.{is_listed}
-use Rattle.law_numbered_dumps.proofs.Recorded.{some_sectors}
+use Rattle.law_numbered_dumps.specs.lemmas.Recorded.{some_sectors}
 use Rattle.law_numbered_dumps.proofs.RateOf.{of_rate}
 use Rattle.law_numbered_dumps.proofs.Streams.{Laws, only_own, owns, owns_only, seen_in}
 use Rattle.law_numbered_dumps.proofs.Told.{AreSetsOfPart, Decided, IsWithin, counted_within, far_row, far_side, is_there, tells, whole_counted}

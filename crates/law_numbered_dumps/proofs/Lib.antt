@@ -1,5 +1,3 @@
-pub mod OneSector
-pub mod Recorded
 pub mod Counting
 pub mod Told
 pub mod Listed

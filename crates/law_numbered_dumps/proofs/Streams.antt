@@ -40,7 +40,7 @@ use Rattle.told_disks.specs.declared.heads.NamedHeads.TheVariants.{Own}
 use Rattle.track_rings.specs.Rings.{IsSectorNumber, last_in, stretch}
 use Rattle.turn_merge.specs.declared.clock.Clock.TheVariants.{Following}
 use Rattle.law_numbered_dumps.specs.Inputs.{HasNoOtherSector}
-use Rattle.law_numbered_dumps.proofs.Recorded.{cells_are, data_to, few_sectors, name_is, named_from, named_to}
+use Rattle.law_numbered_dumps.specs.lemmas.Recorded.{cells_are, data_to, few_sectors, name_is, named_from, named_to}
 use Rattle.law_numbered_dumps.proofs.Told.{Decided, in_number}
 
 -- what the crates below promise
@@ -123,7 +123,7 @@ module _ (laws : Laws) (disk : IbmDisk) (n : ℕ) (x : List ℕ) where
 
     pub only_own : HasNoOtherSector disk track (seen_in x)
     only_own own number has =
-        has_only own number (subst (λ (cs : List Bool). HasName rate own (times x) (indexes x) cs sectors.size number) (cells_are disk track (times x) (indexes x)) has.name)
+        has_only own number (subst (λ (cs : List Bool). HasName rate own (times x) (indexes x) cs sectors.size number) (cells_are disk Following track (times x) (indexes x)) has.name)
 
   -- Where it captures the track, each of them stands.
   module _ (image : List ℕ) (is : IsImage format image) (known : n < length (tracks format)) (capture : Capture x (ring_of format image n) (nominal_of format n)) where
@@ -181,7 +181,7 @@ module _ (laws : Laws) (disk : IbmDisk) (n : ℕ) (x : List ℕ) where
     pub owns : IsOfRate → (number : ℕ) → IsSectorNumber sectors.first_sector sectors.sectors number → HasNamed Own rate (seen_in x) track sectors.size number
     owns of_rate number one = record {
       read = refl;
-      name = subst (λ (cs : List Bool). HasName rate track (times x) (indexes x) cs sectors.size number) (sym (cells_are disk track (times x) (indexes x)))
+      name = subst (λ (cs : List Bool). HasName rate track (times x) (indexes x) cs sectors.size number) (sym (cells_are disk Following track (times x) (indexes x)))
           (has_name of_rate number one);
     }
 

@@ -1,3 +1,4 @@
 pub mod Inputs
 pub mod Headline
 pub mod Called
+pub mod lemmas

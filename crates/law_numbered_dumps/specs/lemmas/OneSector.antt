@@ -4,12 +4,15 @@ use Rattle.ibm_disks.specs.Disks.{is_disk, rate_of, sound, track_of_disk}
 use Rattle.ibm_disks.specs.GapPlans.{track_bytes}
 use Rattle.ibm_disks.specs.declared.disk.IbmDisk.{IbmDisk}
 use Rattle.ibm_disks.specs.declared.rate.Rate.{Rate}
-use Rattle.ibm_disks.specs.declared.rate.Rate.TheVariants.{Double, High, HighAt360, Single, SingleAt360}
+use Rattle.ibm_disks.specs.declared.rate.Rate.TheVariants.{Double, High, HighAt360, Single}
+use Rattle.ibm_disks.specs.declared.rate.Rate.TheVariants.{SingleAt360}
 use Rattle.ibm_disks.specs.declared.sector_size.SectorSize.{SectorSize}
-use Rattle.ibm_disks.specs.declared.sector_size.SectorSize.TheVariants.{Bytes128, Bytes256, Bytes512, Bytes1024}
+use Rattle.ibm_disks.specs.declared.sector_size.SectorSize.TheVariants.{Bytes128, Bytes256}
+use Rattle.ibm_disks.specs.declared.sector_size.SectorSize.TheVariants.{Bytes512, Bytes1024}
 use Rattle.dump_numbers.specs.Rates.{disk_with_one}
 
-is_sound : (rate : Rate) (size : SectorSize) → sound (disk_with_one rate size) ≡ disk_with_one rate size
+is_sound : (rate : Rate) (size : SectorSize)
+    → sound (disk_with_one rate size) ≡ disk_with_one rate size
 unfolding sound is_disk
 is_sound Double Bytes128 = refl
 is_sound Double Bytes256 = refl
@@ -36,8 +39,10 @@ is_sound SingleAt360 Bytes1024 = refl
 pub its_rate : (rate : Rate) (size : SectorSize) → rate_of (disk_with_one rate size) ≡ rate
 its_rate rate size = ap (λ (d : IbmDisk). d.rate) (is_sound rate size)
 
-pub its_size : (rate : Rate) (size : SectorSize) → (track_of_disk (disk_with_one rate size)).size ≡ size
+pub its_size : (rate : Rate) (size : SectorSize)
+    → (track_of_disk (disk_with_one rate size)).size ≡ size
 its_size rate size = ap (λ (d : IbmDisk). d.track.size) (is_sound rate size)
 
-pub its_bytes : (rate : Rate) (size : SectorSize) → (track_of_disk (disk_with_one rate size)).bytes ≡ track_bytes rate
+pub its_bytes : (rate : Rate) (size : SectorSize)
+    → (track_of_disk (disk_with_one rate size)).bytes ≡ track_bytes rate
 its_bytes rate size = ap (λ (d : IbmDisk). d.track.bytes) (is_sound rate size)
