@@ -7,4 +7,3 @@ mod names;
 mod pictures;
 mod sets;
 mod trials;
-mod unpacked;

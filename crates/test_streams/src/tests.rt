@@ -2,6 +2,7 @@
 mod padding;
 mod reading;
 mod scp;
+mod unpacked;
 mod writing;
 
 use flux_base::MemorySource;
