@@ -39,11 +39,17 @@ pub record AreDataOn (disk : IbmDisk) (image : List ℕ) (n : ℕ) (noted : Note
   pub held : noted.held
       ≡ mark ∷ sector_bytes (Numbered disk) (track_at (Numbered disk) n) image name.sector
 
--- all headers and all whole data are those of the track's sectors
+-- all headers and all whole data are those of the track's sectors, of which each is met with both
 pub record AreOfTrack (disk : IbmDisk) (image : List ℕ) (n : ℕ) (headers : List NamedHeader)
     (noted : List NotedData) : Type 0 where
   pub names : (header : NamedHeader) → Contains headers header → IsNameOn disk n header.name
   pub held : (d : NotedData) → Contains noted d → AreDataOn disk image n d
+  pub each : (sector : ℕ) → IsSectorOf (Numbered disk) n sector
+      → (header : NamedHeader) × Contains headers header
+      × (header.name ≡ name_on disk (track_at (Numbered disk) n) sector)
+  pub whole : (sector : ℕ) → IsSectorOf (Numbered disk) n sector
+      → (d : NotedData) × Contains noted d
+      × (d.name ≡ name_on disk (track_at (Numbered disk) n) sector)
 
 -- So it is with what a clock reads by the disk's rate of a stream that captures the track, by a
 -- drive that keeps its speed.

@@ -8,7 +8,7 @@ use Rattle.flux_engine.specs.declared.plan.Rule.TheVariants.{Controller}
 use Rattle.frame_law.specs.Controller.{START_ZEROS}
 use Rattle.law_captured_disks.specs.Frames.{RewrittenTracksAreOwn, written_track}
 use Rattle.law_captured_disks.specs.lemmas.Owning.{rewritten_are_own}
-use Rattle.law_decoded_rings.specs.Verdicts.{PiecesAreRightWithin}
+use Rattle.law_decoded_rings.specs.Verdicts.{PiecesAreRightWithin, TwoRingsHaveSectors}
 use Rattle.sector_images.specs.Places.{tracks}
 use Rattle.sector_images.specs.declared.format.Format.{Format}
 use Rattle.law_imd_tracks.proofs.Names.{Laws, of_track}
@@ -25,6 +25,11 @@ pieces : (c : goal.After-sectors_lie_in_images) (format : Format) (image : List 
 pieces c format image k is known =
     (c.own_sectors_are_right.ensures.rewritten (recording_of (as_controllers_read format) ANY_ID) (track_at format k) (written_track format image k) (own c format image k is known)).0
 
+two_rings : (c : goal.After-sectors_lie_in_images) (format : Format) (image : List ℕ) (k : ℕ) → IsImage format image → k < length (tracks format)
+    → TwoRingsHaveSectors (StandsBy Controller format (track_at format k)) (written_track format image k)
+two_rings c format image k is known =
+    (c.own_sectors_are_right.ensures.rewritten (recording_of (as_controllers_read format) ANY_ID) (track_at format k) (written_track format image k) (own c format image k is known)).1
+
 laws : (c : goal.After-sectors_lie_in_images) → Laws
 laws c = record {
   numbers = c.sectors_lie_in_images.ensures.numbers;
@@ -33,6 +38,8 @@ laws c = record {
   steady = c.steady_captures_are_recovered.ensures.captures;
   names = c.headers_have_names.ensures;
   no_others = c.captures_have_no_others.ensures;
+  reads = c.rewritten_tracks_are_read.ensures;
+  two_rings = two_rings c;
   pieces = pieces c;
 }
 
