@@ -13,6 +13,7 @@ import argparse
 import os
 import random
 import re
+import shutil
 import signal
 import struct
 import subprocess
@@ -242,10 +243,64 @@ def g64_of(size, cells):
     return b"GCR-1541\0" + bytes([84]) + struct.pack("<H84I", 7928, *offsets) + bytes(336) + (content * 35).ljust(size - 684, b"\0")
 
 
+# SCP files of so many bytes
+
+def scp_of(size, count, revolutions):
+    """An SCP file with the tracks of all numbers below a count, one behind another or, where it is one, at one place: each has the heads of its
+    revolutions (duration, count of entries, offset) and bytes, by its number and how many bytes it may have."""
+    room = (size - 16 - 4 * 168) // count
+    tracks = []
+    for number in range(count):
+        heads, data = revolutions(room - 4 - 12 * 255)
+        begin = 4 + 12 * 255
+        told = b"".join(struct.pack("<III", duration, entries, begin + at) for duration, entries, at in heads)
+        tracks.append((b"TRK" + bytes([number]) + told).ljust(begin, b"\0") + data)
+    places = [16 + 4 * 168 + sum(map(len, tracks[:number])) for number in range(count)]
+    table = struct.pack("<168I", *(places + [0] * 168)[:168])
+    return b"SCP" + bytes([0x24, 0x80, 255, 0, count - 1, 0x11, 0, 0, 0]) + bytes(4) + table + b"".join(tracks)
+
+
+def one_revolution(entry):
+    """Entries of one revolution after another, as long as these say."""
+    def revolutions(room):
+        count = room // 8
+        return [(count * 0x100, count, 2 * count * turn) for turn in range(4)], entry * (4 * count)
+    return revolutions
+
+
+def overlapping(room):
+    """Revolutions that all name the same entries, as many as a track may have in all."""
+    count = min(room // 2, 4194304 // 255)
+    return [(count * 0x100, count, 0)] * 255, b"\1\0" * count
+
+
+def beyond(room):
+    """A revolution of more entries than any track has, which lie behind 4 GiB."""
+    return [(1, 0xFFFFFFFF, 0xFFFFFF00)], b"\1\0" * (room // 2)
+
+
+SCP_FILES = [
+    ("one track of 256 units", 1, one_revolution(b"\1\0")),
+    ("one track of 1 unit", 1, one_revolution(b"\0\1")),
+    ("one track of overflows", 1, one_revolution(b"\0\0")),
+    ("168 tracks of 256 units", 168, one_revolution(b"\1\0")),
+    ("168 tracks of revolutions that overlap", 168, overlapping),
+    ("168 tracks that lie behind 4 GiB", 168, beyond),
+]
+
+
 # Measuring
+
+def folder_of(path):
+    """Where the files of an input's tracks are made, anew in each run."""
+    folder = f"{path}-tracks"
+    shutil.rmtree(folder, ignore_errors=True)
+    return folder
+
 
 def once(command, path):
     """The processor time of a run in seconds."""
+    folder_of(path)
     with open(path, "rb") as given:
         child = subprocess.Popen(command, stdin=given, stdout=subprocess.DEVNULL, stderr=subprocess.DEVNULL)
         _, _, usage = os.wait4(child.pid, 0)
@@ -254,6 +309,7 @@ def once(command, path):
 
 def instructions(command, path):
     """The instructions of a run, in thousands of millions."""
+    folder_of(path)
     counting = ["valgrind", "--tool=cachegrind", "--cache-sim=no", "--cachegrind-out-file=/dev/null", *command]
     with open(path, "rb") as given:
         done = subprocess.run(counting, stdin=given, stdout=subprocess.DEVNULL, stderr=subprocess.PIPE, text=True)
@@ -275,16 +331,18 @@ class Table:
         self.rows, self.wrong, self.worst, self.peak = 0, 0, 0, 0
         print(f"{'command':22} {'input':38} {'small':>9} {'large':>9} {'ratio':>6} {'MiB':>6}")
 
-    def row(self, words, name, small, large, most=4.4, other=None, dumps=0, beside=()):
+    def row(self, words, name, small, large, most=4.4, other=None, dumps=0, beside=(), made=False):
         """A row: the command over the small input and over the large one, or another command over the large one. The input is the file of
-        the first track in so many dumps, and those of further tracks beside it, or what is read where there are none."""
+        the first track in so many dumps, and those of further tracks beside it, or what is read where there are none. It may be made files of."""
         with tempfile.TemporaryDirectory(dir=self.work) as folder:
             inputs = Path(folder, "small00.0.raw"), Path(folder, "large00.0.raw")
-            runs = [[self.program, *wanted, *dumps * [str(path)]] for wanted, path in zip((words, other or words), inputs)]
+            runs = [[self.program, *wanted, *dumps * [str(path)], *made * [f"{path}-tracks"]] for wanted, path in zip((words, other or words), inputs)]
             for path, data in zip(inputs, (small, large)):
                 for track in ("00.0", *beside):
                     Path(folder, path.name.replace("00.0", track)).write_bytes(data)
             seconds, more = compared(*zip(runs, inputs), self.count)
+            for path in inputs:
+                folder_of(path)
             peak = max(peak_of(command, path, folder) for command, path in zip(runs, inputs))
         ratio = more / max(seconds, 1e-6)
         wrong = ratio > most or not peak < PEAK
@@ -336,6 +394,15 @@ def measured(table, wanted):
         for form in (FORMATS[name] for name in USED):
             for name, make in [LONGEST] * has_codes(form) + [NAMES] + RETRIED + [TRACKS[0], TRACKS[3], TRACKS[6]]:
                 table.row(["identify"], f"{name}, {form.word}", *(make(form, size) for size in SIZES), dumps=1)
+    if "imd" in wanted:
+        for form in (FORMATS[name] for name in USED[:2]):
+            for name, make in [LONGEST, NAMES] + RETRIED + TRACKS:
+                table.row(["imd"], f"{name}, {form.word}", *(make(form, size) for size in SIZES), dumps=1)
+        for name, make in STREAMS:
+            table.row(["imd"], name, *(make(FORMATS["ibm-720"], size) for size in SIZES), dumps=1)
+    if "unpack" in wanted:
+        for name, count, revolutions in SCP_FILES:
+            table.row(["unpack"], name, *(scp_of(size, count, revolutions) for size in SIZES), dumps=1, made=True)
     if "show" in wanted:
         for form in (FORMATS[name] for name in USED):
             for name, make in [CONTENTS] + RETRIED + TRACKS[:4]:
