@@ -269,14 +269,14 @@ def one_revolution(entry):
 
 
 def overlapping(room):
-    """Revolutions that all name the same entries, as many as a track may have in all."""
-    count = min(room // 2, 4194304 // 255)
+    """Revolutions that all name the same entries: as many of a track's bytes as in the other size."""
+    count = (room + 4 + 12 * 255) // 16
     return [(count * 0x100, count, 0)] * 255, b"\1\0" * count
 
 
 def beyond(room):
     """A revolution of more entries than any track has, which lie behind 4 GiB."""
-    return [(1, 0xFFFFFFFF, 0xFFFFFF00)], b"\1\0" * (room // 2)
+    return [(1, 0xFFFFFFFF, 0xFFFFF000)], b"\1\0" * (room // 2)
 
 
 SCP_FILES = [
