@@ -5,6 +5,7 @@ ghost use Rattle.std.specs.Vec.{vec_capacity};
 ghost use Rattle.sector_images.specs.declared.format.Format.TheVariants.{Numbered};
 ghost use Rattle.track_shelf.specs.Stepping.{reaches_all};
 ghost use Rattle.dump_identity.specs.Candidates.{by_numbers, candidates, candidates_of};
+ghost use Rattle.dump_numbers.specs.Sets.{AreNotedTo};
 ghost use Rattle.dump_identity.specs.Trials.{trial_of};
 
 use dump_numbers::{NumberedDisk, NumbersRoom};
@@ -60,13 +61,9 @@ impl IdentityRoom {
     /// Takes it. What is in it then is the invariant: all candidates that have names, for none of which a file came, and
     /// room for those by numbers.
     pub fn reserve(alloc: Global) -> Result<IdentityRoom, Memory> {
-        let stream = SharedStream::reserve(alloc)?;
-        let numbers = NumbersRoom::reserve(alloc)?;
-        let passed = Vec::with_capacity(alloc, usize::from(MOST_FILES))?;
-        let again = Vec::with_capacity(alloc, usize::from(MOST_FILES))?;
-        let disks = named_disks(alloc)?;
-        let spare = spare_rooms(alloc)?;
-        let held = Vec::with_capacity(alloc, disks.capacity())?;
+        let (stream, numbers) = streams(alloc)?;
+        let (passed, again) = file_lists(alloc)?;
+        let (disks, spare, held) = disk_lists(alloc)?;
         Ok(IdentityRoom {
             stream,
             numbers,
@@ -77,6 +74,38 @@ impl IdentityRoom {
             held,
         })
     }
+}
+
+/// What reads a stream, and notes the numbers that it tells.
+fn streams(alloc: Global) -> Result<(SharedStream, NumbersRoom), Memory>
+    ensures { IfOk result (λ both. AreNotedTo [] both.1) }
+{
+    let stream = SharedStream::reserve(alloc)?;
+    Ok((stream, NumbersRoom::reserve(alloc)?))
+}
+
+/// Empty lists of all files, for two readings.
+fn file_lists(alloc: Global) -> Result<(Vec<Option<Passed>>, Vec<Option<Passed>>), Memory>
+    ensures passed { IfOk result (λ both. (both.0.items ≡ []) × (200 ≤ vec_capacity both.0)) }
+    ensures again { IfOk result (λ both. (both.1.items ≡ []) × (200 ≤ vec_capacity both.1)) }
+{
+    let passed = Vec::with_capacity(alloc, usize::from(MOST_FILES))?;
+    let again = Vec::with_capacity(alloc, usize::from(MOST_FILES))?;
+    Ok((passed, again))
+}
+
+/// All candidates that have names, memory for those by numbers, and an empty list of all.
+fn disk_lists(alloc: Global) -> Result<(Vec<DiskTally>, Vec<TallyRoom>, Vec<bool>), Memory>
+    ensures named { IfOk result (λ all. all.0.items ≡ map trial_of candidates) }
+    ensures room { IfOk result (λ all. length all.0.items + 40 ≤ vec_capacity all.0) }
+    ensures spare { IfOk result (λ all. length all.1.items ≡ 40) }
+    ensures held { IfOk result
+        (λ all. (all.2.items ≡ []) × (length all.0.items + 40 ≤ vec_capacity all.2)) }
+{
+    let disks = named_disks(alloc)?;
+    let spare = spare_rooms(alloc)?;
+    let held = Vec::with_capacity(alloc, disks.capacity())?;
+    Ok((disks, spare, held))
 }
 
 /// All candidates that have names, and room for those by numbers.
