@@ -5,6 +5,7 @@ mod before;
 mod bench;
 mod block;
 mod fault;
+mod flux_maker;
 mod front;
 mod held;
 mod intake;
@@ -18,6 +19,7 @@ mod writing;
 pub use bench::{MOST_INDEXES, MOST_TIMES, StreamBench};
 pub use block::{Block, Mark, SpelledBlock};
 pub use fault::{CaptureFault, StreamFault, TrackFault};
+pub use flux_maker::FluxMaker;
 pub use intake::Intake;
 pub use laws::{
     blocks_law, growth_law, joined_law, padding_law, spelling_law, stream_law, turn_faults_law,

@@ -1,4 +1,5 @@
-ghost use Rattle.std.specs.Prelude.{◌≡◌, ◌≤◌, ◌++◌, ℕ, List, [], length, Some, true, IfErr, IfOk, OnErr};
+ghost use Rattle.std.specs.Prelude.{◌≡◌, ◌≤◌, ◌++◌, ℕ, List, [], length, Some, false, true, IfErr, IfOk};
+ghost use Rattle.std.specs.Prelude.{OnErr};
 ghost use Rattle.flux_base.specs.Counts.{Counts};
 ghost use Rattle.flux_base.specs.World.{source_counts};
 ghost use Rattle.kryo_stream.specs.HeldStreams.{HoldsFault, HoldsStream};
@@ -8,6 +9,7 @@ ghost use Rattle.kryo_stream.specs.Reads.{reads_at};
 
 use crate::bench::{MOST_INDEXES, MOST_TIMES, StreamBench};
 use crate::fault::{CaptureFault, StreamFault, TrackFault};
+use crate::flux_maker::FluxMaker;
 use crate::held::HeldBytes;
 use crate::intake::Intake;
 use crate::laws::growth_law;
@@ -120,6 +122,18 @@ impl StreamRoom {
             // Bytes at hand do not fail.
             Err(CaptureFault::ReadFault) => unreachable!(),
         }
+    }
+
+    /// Has transitions and index times made in the place of those of a stream. The room begins anew before.
+    pub fn fill<S, R, M: FluxMaker<S, R>>(&mut self, maker: &M, outside: &mut S) -> R
+        ensures made { M.makes maker.now outside.old outside.new result self.new.flux }
+        ensures held { self.new.held ≡ [] }
+        ensures used { self.new.used ≡ false }
+    {
+        self.restart();
+        let (flux, answer) = maker.make(outside, self.flux.take());
+        self.flux = flux;
+        answer
     }
 
     /// The transitions and index times of the stream that was read last.
