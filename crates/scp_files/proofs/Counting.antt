@@ -1,9 +1,9 @@
 -- The in-stream bytes and the blocks of a capture's intervals, one interval after another.
 use Rattle.std.proofs.Common.{◌≡◌, ◌≤◌, ◌<◌, ◌+◌, ◌-◌, ◌/◌, ◌%◌, ◌++◌, ℕ, zero, suc, true, false, cond, List, [], ◌∷◌, length, get_or, slice_index, flat_map, replicate, nat_le, ap, ◌∙◌, arith, append-nil, length-append}
 use Rattle.std.specs.List.{range_with_len}
-use Rattle.std.specs.List.Sorted.{IsNonDecreasing}
+use Rattle.std.specs.List.Sorted.{IsNonDecreasing, IsStrictlyIncreasing}
 use Rattle.std.proofs.lemmas.Bool.Decides.{nat_tests}
-use Rattle.std.proofs.lemmas.List.{length-replicate}
+use Rattle.std.proofs.lemmas.List.{get_or_default, length-replicate}
 use Rattle.std.proofs.lemmas.List.Concat.{flat_map-append}
 use Rattle.std.proofs.lemmas.List.Sums.{sum_by-cons}
 use Rattle.kryo_stream.specs.declared.block.Block.{Block}
@@ -79,3 +79,23 @@ passed-all ts x low = passed-is ts (length ts) x (omega arith) low (λ i from in
 pub begin-next : (times : List ℕ) (k : ℕ) → begin_of times (k + 1) ≡ get_or times k 0
 begin-next times k =
     let next : k + 1 ≡ suc k = omega arith in ap (λ n. get_or (0 ∷ times) n 0) next
+
+-- what rises does not fall
+rises-to : (xs : List ℕ) → IsStrictlyIncreasing xs → (i n : ℕ) → i + n < length xs → get_or xs i 0 ≤ get_or xs (i + n) 0
+rises-to xs up i zero inside =
+    let here : i + zero ≡ i = omega arith in
+    omega (arith, ap (λ k. get_or xs k 0) here)
+rises-to xs up i (suc n) inside =
+    let next : i + suc n ≡ (i + n) + 1 = omega arith in
+    omega (arith, rises-to xs up i n (omega (arith, inside)), up (i + n) (omega (arith, inside)), ap (λ k. get_or xs k 0) next)
+
+pub rising-climbs : (xs : List ℕ) → IsStrictlyIncreasing xs → IsNonDecreasing xs
+rising-climbs xs up i j d order inside =
+    let there : i + (j - i) ≡ j = omega (arith, order) in
+    omega (
+      arith,
+      get_or_default xs i 0 d (omega (arith, order, inside)),
+      get_or_default xs j 0 d inside,
+      rises-to xs up i (j - i) (omega (arith, there, inside)),
+      ap (λ k. get_or xs k 0) there,
+    )

@@ -4,3 +4,4 @@ pub mod Finishing
 pub mod Fronts
 pub mod Lists
 pub mod Noting
+pub mod Refusing

@@ -25,6 +25,10 @@ pub record CaptureState : Type 0 where
 abbrev pub MOST_REVOLUTIONS : ℕ
 MOST_REVOLUTIONS = 255
 
+-- the index times for which there is room: those of any stream
+abbrev pub MOST_INDEXES : ℕ
+MOST_INDEXES = 262144
+
 -- all of these index times were kept, which rise; or those before the first that is not above
 -- the one before it
 abbrev pub AreKept : (all kept : List ℕ) → (falls : Bool) → Type 0

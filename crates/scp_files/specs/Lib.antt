@@ -2,6 +2,8 @@ pub mod Units
 pub mod Files
 pub mod Tracks
 pub mod Streams
+pub mod Disks
 pub mod Captures
 pub mod Laws
 pub mod inside
+pub mod lemmas

@@ -95,3 +95,21 @@ values_of track count =
 abbrev pub durations_of : List ℕ → (count : ℕ) → List ℕ
 durations_of track count =
     map (λ r. (revolution_at track r).duration) (range_with_len 0 count)
+
+-- why a track is not whole: for its header, or else for the revolution at which its reading ends
+abbrev pub fault_by : (head behind : Option ScpTrackFault) → Option ScpTrackFault
+fault_by (Some fault) behind = Some fault
+fault_by None behind = behind
+
+abbrev pub track_fault : (revolutions number : ℕ) → (track : List ℕ) → Option ScpTrackFault
+track_fault revolutions number track =
+    fault_by (head_fault revolutions number track) (end_fault revolutions track)
+
+-- how many revolutions are read: none where there is no header
+abbrev pub count_by : (head : Option ScpTrackFault) → (whole : ℕ) → ℕ
+count_by (Some fault) whole = 0
+count_by None whole = whole
+
+abbrev pub read_count : (revolutions number : ℕ) → (track : List ℕ) → ℕ
+read_count revolutions number track =
+    count_by (head_fault revolutions number track) (whole_count revolutions track)

@@ -3,7 +3,7 @@ ghost use Rattle.flux_base.specs.Counts.{Counts};
 ghost use Rattle.flux_base.specs.World.{source_counts};
 ghost use Rattle.index_turns.specs.Track.{KeepsRoom, room_of_indexes, room_of_times};
 ghost use Rattle.track_rings.specs.Rings.{last_in};
-ghost use Rattle.scp_files.specs.Captures.{Holds, MOST_REVOLUTIONS, ReadsRevolution, is_read_fault};
+ghost use Rattle.scp_files.specs.Captures.{Holds, MOST_INDEXES, MOST_REVOLUTIONS, ReadsRevolution, is_read_fault};
 ghost use Rattle.scp_files.specs.Streams.{Says};
 ghost use Rattle.scp_files.specs.Tracks.{MOST_ENTRIES, words};
 ghost use Rattle.scp_files.specs.inside.Noting.{Noted, ReadsBytes, Turned, is_too_long_at};
@@ -51,7 +51,7 @@ pub struct Capture {
 impl Model for Capture {
     ghost use Rattle.std.specs.Prelude.{◌≤◌, ◌<◌, ◌*◌, ◌+◌, length, All};
     ghost use Rattle.index_turns.specs.Track.{room_of_indexes, room_of_times};
-    ghost use Rattle.scp_files.specs.Captures.{CaptureState};
+    ghost use Rattle.scp_files.specs.Captures.{CaptureState, MOST_INDEXES};
     ghost use Rattle.scp_files.specs.Tracks.{MOST_ENTRIES};
     ghost use Rattle.scp_files.specs.Units.{ticks_of};
 
@@ -68,7 +68,7 @@ impl Model for Capture {
     } };
 
     ghost invariant = { λ c.
-        ((MOST_ENTRIES ≤ room_of_times c.flux) × (256 ≤ room_of_indexes c.flux))
+        ((MOST_ENTRIES ≤ room_of_times c.flux) × (MOST_INDEXES ≤ room_of_indexes c.flux))
         × ((length c.flux.times ≤ c.entries) × (c.entries ≤ MOST_ENTRIES) × (c.units ≤ 65536 * c.entries))
         × ((0 < length c.flux.indexes) × (length c.flux.indexes ≤ c.revolutions + 1)
         × (c.moment ≤ 4294967295 * c.revolutions) × (c.revolutions ≤ 255))
@@ -80,7 +80,7 @@ impl Capture {
     /// A capture of no revolution, by units of `resolution` + 1 times 25 ns, in the room of a track.
     pub fn begin(flux: TrackFlux, resolution: u8) -> Capture
         requires times { MOST_ENTRIES ≤ room_of_times flux }
-        requires indexes { 256 ≤ room_of_indexes flux }
+        requires indexes { MOST_INDEXES ≤ room_of_indexes flux }
         ensures holds { Holds [] [] result }
         ensures resolution { result.resolution ≡ resolution }
     {
@@ -158,7 +158,9 @@ impl Capture {
             → Says self.now.resolution values durations self.now.flux result }
 
         // So the times of a stream can be written.
-        ensures few { length self.now.flux.times + length self.now.flux.indexes ≤ 4194560 }
+        ensures few { length self.now.flux.times ≤ MOST_ENTRIES }
+        ensures turns { length self.now.flux.indexes ≤ 256 }
+        ensures more { OnOk result (2 ≤ length self.now.flux.indexes) }
         ensures early { OnOk result (All (λ time. time < 2 ^ 32) self.now.flux.times) }
         ensures near { OnOk result (All (λ index. index < 2 ^ 32) self.now.flux.indexes) }
     {
@@ -196,7 +198,7 @@ impl Capture {
     pub fn into_flux(self) -> TrackFlux
         ensures value { result ≡ self.flux }
         ensures times { MOST_ENTRIES ≤ room_of_times result }
-        ensures indexes { 256 ≤ room_of_indexes result }
+        ensures indexes { MOST_INDEXES ≤ room_of_indexes result }
     {
         self.flux
     }

@@ -38,6 +38,15 @@ pub enum ScpTrackFault {
     ShortData(u8),
 }
 
+/// What is told of a track that is not whole.
+#[derive(Clone, Copy, Debug, PartialEq, Eq)]
+pub enum TrackTold {
+    /// The file says so. Where it ends inside a revolution that is not the first, those before are kept.
+    Fault(ScpTrackFault),
+    /// The stream that the track stands for has this fault, in the block of this number from 0.
+    Refused { block: u32, fault: StreamFault },
+}
+
 /// Why a revolution was not read.
 #[derive(Clone, Copy, Debug, PartialEq, Eq, Error)]
 pub enum RevolutionFault {

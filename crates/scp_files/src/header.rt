@@ -1,15 +1,17 @@
-ghost use Rattle.std.specs.Prelude.{◌≡◌, ◌<◌, ◌≤◌, ◌+◌, ◌*◌, is_err, length, slice_index, Option, IfOk, OnErr};
+ghost use Rattle.std.specs.Prelude.{◌≡◌, ◌<◌, ◌≤◌, ◌+◌, ◌*◌, is_err, length, slice_index, take, Option, IfOk, IfSome};
+ghost use Rattle.std.specs.Prelude.{OnErr};
 ghost use Rattle.std.specs.Io.KnownBytes.{Consumes, IsAtEnd};
 ghost use Rattle.flux_base.specs.Counts.{Counts};
 ghost use Rattle.flux_base.specs.World.{source_counts};
 ghost use Rattle.scp_files.specs.Captures.{TakesFewer};
 ghost use Rattle.scp_files.specs.Files.{entry_at, entry_end, file_fault, is_there, resolution_of, revolutions_of};
-ghost use Rattle.scp_files.specs.Files.{track_offset, wanted_sum};
+ghost use Rattle.scp_files.specs.Disks.{offset_unless, scp_number};
+ghost use Rattle.scp_files.specs.Files.{FRONT_SIZE, TABLE_SIZE, track_offset, wanted_sum};
 
 use crate::fault::ScpFault;
 use crate::filling::fill;
 use byteorder::{ByteOrder, LittleEndian};
-use flux_base::{Failed, Source};
+use flux_base::{Failed, Source, TrackId, copy_front};
 use std::marker::Model;
 
 /// The bytes of the header with its table.
@@ -54,6 +56,15 @@ impl ScpHeader {
             Ok(filled) => Ok(ScpHeader { bytes, filled }),
             Err(failed) => Err(failed),
         }
+    }
+
+    /// The begin of a file whose bytes are at hand.
+    pub fn of_bytes(file: &[u8]) -> ScpHeader
+        ensures { result ≡ take FRONT_SIZE file.now }
+    {
+        let mut bytes = [0; FRONT_SIZE];
+        let filled = copy_front(file, &mut bytes);
+        ScpHeader { bytes, filled }
     }
 
     #[tactic(auto, unfolding(crate::specs::Files::file_fault))]
@@ -105,6 +116,30 @@ impl ScpHeader {
         match entry(file, number) {
             0 => None,
             offset => Some(offset),
+        }
+    }
+
+    /// The place in the file of this track. None where the file has a fault, or not the track.
+    pub fn place_of(&self, track: TrackId) -> Option<u32>
+        ensures is { result ≡ offset_unless (file_fault self.now) (track_offset self.now (scp_number track)) }
+        ensures low { IfSome result (λ _. scp_number track < TABLE_SIZE) }
+        ensures size { IfSome result (λ _. 16 ≤ length self.now) }
+    {
+        match self.fault() {
+            Some(_) => None,
+            None => self.track_numbered(2 * u32::from(track.cylinder) + u32::from(track.head)),
+        }
+    }
+
+    /// The place of the track of this number, which may be one that no track has.
+    #[tactic(auto, unfolding(crate::specs::Files::track_offset))]
+    fn track_numbered(&self, number: u32) -> Option<u32>
+        ensures { result ≡ track_offset self.now number }
+    {
+        if number < u32::from(TABLE_SIZE) {
+            self.track(number as u8)
+        } else {
+            None
         }
     }
 

@@ -12,11 +12,14 @@ mod filling;
 mod head;
 mod header;
 mod laws;
+mod refusal;
 mod stream;
 mod units;
 
 pub use capture::Capture;
-pub use fault::{CaptureRefused, RevolutionFault, ScpFault, ScpTrackFault};
+pub use fault::{CaptureRefused, RevolutionFault, ScpFault, ScpTrackFault, TrackTold};
 pub use head::{Revolution, TrackHead};
 pub use header::ScpHeader;
 pub use laws::{begins_tell, captures_read_back};
+pub use refusal::find_refusal;
+pub use stream::stream_size;

@@ -3,11 +3,12 @@
 ghost use Rattle.std.specs.Prelude.{◌≡◌, ◌<◌, ◌≤◌, ◌^◌, length, All};
 ghost use Rattle.std.specs.List.Sorted.{IsNonDecreasing};
 ghost use Rattle.track_rings.specs.Rings.{last_in};
-ghost use Rattle.flux_writer.specs.Trailing.{blocks_before, passed_by};
+ghost use Rattle.flux_writer.specs.Trailing.{blocks_before, passed_by, stream_of_capture};
 ghost use Rattle.flux_writer.specs.Written.{in_stream_before};
 ghost use Rattle.scp_files.specs.Tracks.{MOST_ENTRIES};
 
-use flux_writer::interval_length;
+use flux_writer::{capture_law, interval_length};
+use index_turns::TrackFlux;
 
 /// How many ticks an Overflow block stands for.
 const OVERFLOW_TICKS: u64 = 65536;
@@ -39,6 +40,17 @@ pub(crate) fn stream_bytes(times: &[u64]) -> u64
         begin = *time;
     }
     bytes
+}
+
+/// How many bytes the stream of these transitions and index times has.
+pub fn stream_size(flux: &TrackFlux) -> u32
+    requires few { length flux.now.times ≤ MOST_ENTRIES }
+    requires turns { length flux.now.indexes ≤ 1048576 }
+    requires early { All (λ time. time < 2 ^ 32) flux.now.times }
+    ensures { result ≡ length (stream_of_capture flux.now.times flux.now.indexes) }
+{
+    capture_law();
+    (stream_bytes(flux.times()) + 16 * flux.indexes().len() as u64 + 16) as u32
 }
 
 /// How many blocks the intervals have that end with a transition that is not above an index time.

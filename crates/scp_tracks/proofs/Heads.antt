@@ -5,10 +5,10 @@ use Rattle.std.proofs.lemmas.Bool.Decides.{nat_tests}
 use Rattle.std.specs.Str.{bytes_eq}
 use Rattle.flux_base.specs.declared.outside.Failed.{Failed}
 use Rattle.scp_files.specs.Captures.{CaptureState, Holds}
-use Rattle.scp_files.specs.Tracks.{TRACK_SIGNATURE, end_fault, head_fault, head_size, whole_count}
+use Rattle.scp_files.specs.Tracks.{TRACK_SIGNATURE, count_by, end_fault, fault_by, head_fault, head_size, whole_count}
 use Rattle.scp_files.specs.declared.fault.ScpTrackFault.{ScpTrackFault}
 use Rattle.scp_files.specs.declared.fault.ScpTrackFault.TheVariants.{BadNumber, BadSignature, ShortTrack}
-use Rattle.scp_tracks.specs.Tracks.{HoldsFirst, ReadsTrack, count_by, fault_by}
+use Rattle.scp_tracks.specs.Tracks.{HoldsFirst, ReadsTrack}
 use Rattle.scp_tracks.specs.declared.track.TrackPlace.{TrackPlace}
 use Rattle.scp_tracks.specs.inside.Walk.{ReadsRevolutions}
 

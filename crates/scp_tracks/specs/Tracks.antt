@@ -6,7 +6,7 @@ use Rattle.flux_base.specs.declared.outside.Failed.{Failed}
 use Rattle.track_shelf.specs.Files.{File}
 use Rattle.scp_files.specs.Captures.{CaptureState, Holds}
 use Rattle.scp_files.specs.Files.{FRONT_SIZE}
-use Rattle.scp_files.specs.Tracks.{durations_of, end_fault, head_fault, values_of, whole_count}
+use Rattle.scp_files.specs.Tracks.{durations_of, read_count, track_fault, values_of}
 use Rattle.scp_files.specs.declared.fault.ScpTrackFault.{ScpTrackFault}
 use Rattle.scp_tracks.specs.declared.track.TrackPlace.{TrackPlace}
 
@@ -19,24 +19,6 @@ abbrev pub IsBeginOf : Option File → Option (List ℕ) → Type 0
 IsBeginOf None None = Unit {0}
 IsBeginOf (Some file) (Some begin) = begin ≡ take FRONT_SIZE file.bytes
 IsBeginOf _ _ = ⊥
-
--- why a track is not whole: for its header, or else for the revolution at which its reading ends
-abbrev pub fault_by : (head behind : Option ScpTrackFault) → Option ScpTrackFault
-fault_by (Some fault) behind = Some fault
-fault_by None behind = behind
-
-abbrev pub track_fault : (revolutions number : ℕ) → (track : List ℕ) → Option ScpTrackFault
-track_fault revolutions number track =
-    fault_by (head_fault revolutions number track) (end_fault revolutions track)
-
--- how many revolutions are read: none where there is no header
-abbrev pub count_by : (head : Option ScpTrackFault) → (whole : ℕ) → ℕ
-count_by (Some fault) whole = 0
-count_by None whole = whole
-
-abbrev pub read_count : (revolutions number : ℕ) → (track : List ℕ) → ℕ
-read_count revolutions number track =
-    count_by (head_fault revolutions number track) (whole_count revolutions track)
 
 -- the capture holds the first revolutions, so many
 abbrev pub HoldsFirst : (track : List ℕ) → (count : ℕ) → CaptureState → Type 0

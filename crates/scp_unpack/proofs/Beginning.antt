@@ -27,17 +27,6 @@ fault-is tells at begin header why is begins fault = by at (subst (IsBeginOf at)
     by None b = absurd b
     by (Some file) b = (file, refl, sym (tells file.bytes).fault ∙ ap file_fault (sym b) ∙ sym fault)
 
-not-then : (b : Bool) (fault : ScpFault) (rest : Option ScpFault) → (if b then Some fault else rest) ≡ None → b ≡ false
-not-then true fault rest is = absurd (none_some (sym is))
-not-then false fault rest is = refl
-
--- a begin without a fault is long enough
-pub sized : (header : List ℕ) → file_fault header ≡ None → 16 ≤ length header
-unfolding file_fault
-sized header is =
-    let long : nat_lt (length header) HEADER_SIZE ≡ false = not-then (nat_lt (length header) HEADER_SIZE) _ _ is in
-    grind (arith, nat_tests, long)
-
 -- the tracks are made files in a folder that was made before
 pub says-whole : (asked : Asked) (made mid made' : Option Made) (notes notes' : Option (List ℕ)) (u : Unit {0}) → CanUnpack asked made
     → mid ≡ option_map (made_folder asked.folder (Ok u)) made

@@ -21,7 +21,7 @@ use Rattle.scp_unpack.specs.Answers.{Answer, AreFirst, Asked, IsFrontOf, SaysOfT
 use Rattle.scp_unpack.specs.Files.{came_at, file_of, file_with, files_of, first_came, line_by, lines_of}
 use Rattle.scp_unpack.specs.Lines.{total_text}
 use Rattle.scp_unpack.specs.Tracks.{TrackCame, came_of}
-use Rattle.scp_unpack.specs.declared.fault.TrackTold.{TrackTold}
+use Rattle.scp_files.specs.declared.fault.TrackTold.{TrackTold}
 use Rattle.scp_unpack.specs.declared.fault.UnpackFault.{UnpackFault}
 use Rattle.scp_unpack.specs.declared.fault.UnpackFault.TheVariants.{Exists, FileFault, FolderFault, NotThere, NotesFault, ReadFault, Refused}
 use Rattle.scp_unpack.specs.declared.unpacking.Unpacked.{Unpacked}

@@ -9,7 +9,7 @@ use Rattle.flux_base.specs.Outside.{AppendsPart}
 use Rattle.flux_base.specs.declared.outside.Failed.{Failed}
 use Rattle.scp_unpack.specs.Files.{file_with, files_of}
 use Rattle.scp_unpack.specs.Tracks.{TrackCame, stream_by}
-use Rattle.scp_unpack.specs.declared.fault.TrackTold.{TrackTold}
+use Rattle.scp_files.specs.declared.fault.TrackTold.{TrackTold}
 use Rattle.scp_unpack.specs.inside.Came.{MakesTrack}
 
 module _ (folder : List ℕ) (number : ℕ) (bytes : List ℕ) where

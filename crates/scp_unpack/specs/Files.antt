@@ -7,7 +7,7 @@ use Rattle.scp_files.specs.Files.{resolution_of, revolutions_of, track_offset}
 use Rattle.std.specs.Prelude.{drop}
 use Rattle.scp_unpack.specs.Lines.{told_text}
 use Rattle.scp_unpack.specs.Tracks.{TrackCame, came_of, track_of}
-use Rattle.scp_unpack.specs.declared.fault.TrackTold.{TrackTold}
+use Rattle.scp_files.specs.declared.fault.TrackTold.{TrackTold}
 
 abbrev pub file_with : (folder : List ℕ) → (number : ℕ) → (bytes : List ℕ) → File
 file_with folder number bytes =

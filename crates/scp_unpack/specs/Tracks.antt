@@ -1,43 +1,18 @@
 -- What a track of an SCP file comes to: the stream that it stands for, of which a file is made, and
 -- what is told of it.
-use Rattle.std.specs.Prelude.{ℕ, nat_lt, ◌/◌, ◌%◌, if◌then◌else◌, Bool, true, false, List}
-use Rattle.std.specs.Prelude.{option_map, Option, Some, None}
+use Rattle.std.specs.Prelude.{ℕ, ◌/◌, ◌%◌, List, option_map, Option, Some, None}
 use Rattle.flux_base.specs.declared.track.TrackId.{TrackId}
-use Rattle.kryo_stream.specs.Stream.{first_fault}
-use Rattle.kryo_stream.specs.declared.fault.StreamFault.{StreamFault}
-use Rattle.scp_files.specs.Streams.{is_too_long_of, stream_of}
-use Rattle.scp_files.specs.Tracks.{durations_of, values_of}
+use Rattle.scp_files.specs.Disks.{kept_stream, refusal_of}
+use Rattle.scp_files.specs.Streams.{stream_of}
+use Rattle.scp_files.specs.Tracks.{durations_of, read_count, track_fault, values_of}
 use Rattle.scp_files.specs.declared.fault.ScpTrackFault.{ScpTrackFault}
-use Rattle.scp_files.specs.declared.fault.ScpTrackFault.TheVariants.{ShortData, TooLong}
-use Rattle.scp_tracks.specs.Tracks.{read_count, track_fault}
+use Rattle.scp_files.specs.declared.fault.TrackTold.{TrackTold}
+use Rattle.scp_files.specs.declared.fault.TrackTold.TheVariants.{Fault}
 use Rattle.scp_tracks.specs.declared.track.TrackPlace.{TrackPlace}
-use Rattle.scp_unpack.specs.declared.fault.TrackTold.{TrackTold}
-use Rattle.scp_unpack.specs.declared.fault.TrackTold.TheVariants.{Fault, Refused}
 
 -- cylinder C and head H have the number 2 C + H
 abbrev pub track_of : (number : ℕ) → TrackId
 track_of number = record { cylinder = number / 2; head = number % 2 }
-
--- the revolutions that were read are kept: all, or those before one inside which the file ends
-abbrev pub keeps : Option ScpTrackFault → Bool
-keeps None = true
-keeps (Some (ShortData revolution)) = nat_lt 0 revolution
-keeps (Some fault) = false
-
--- why their stream is none
-abbrev pub stream_refusal : (too_long : Bool) → Option (ℕ × StreamFault) → Option TrackTold
-stream_refusal true fault = Some (Fault TooLong)
-stream_refusal false None = None
-stream_refusal false (Some (block, fault)) = Some (Refused block fault)
-
--- why no file is made
-abbrev pub refusal_of : Option ScpTrackFault → (resolution : ℕ) → (values durations : List ℕ)
-    → Option TrackTold
-refusal_of fault resolution values durations =
-    if keeps fault
-    then stream_refusal (is_too_long_of resolution values durations)
-    (first_fault (stream_of resolution values durations))
-    else option_map Fault fault
 
 -- the stream of a track, by its number, where a file is made of it; and what is told of it
 pub record TrackCame : Type 0 where
@@ -63,7 +38,8 @@ came_by number refusal fault stream =
 abbrev pub came_of_count : (resolution number : ℕ) → Option ScpTrackFault → (track : List ℕ)
     → (count : ℕ) → TrackCame
 came_of_count resolution number fault track count =
-    came_by number (refusal_of fault resolution (values_of track count) (durations_of track count))
+    came_by number
+    (refusal_of (kept_stream fault resolution (values_of track count) (durations_of track count)))
     fault (stream_of resolution (values_of track count) (durations_of track count))
 
 abbrev pub came_of : (resolution : ℕ) → TrackPlace → (track : List ℕ) → TrackCame

@@ -1,15 +1,5 @@
-use kryo_stream::StreamFault;
-use scp_files::{ScpFault, ScpTrackFault};
+use scp_files::ScpFault;
 use thiserror::Error;
-
-/// What is told of a track that is not whole.
-#[derive(Clone, Copy, Debug, PartialEq, Eq)]
-pub enum TrackTold {
-    /// The file says so. Where it ends inside a revolution that is not the first, those before are kept.
-    Fault(ScpTrackFault),
-    /// The stream that the track stands for has this fault, in the block of this number from 0.
-    Refused { block: u32, fault: StreamFault },
-}
 
 /// Why the tracks of an SCP file were not made files, or not all of them. Tracks are told by their numbers, 2 C + H for
 /// cylinder C and head H.

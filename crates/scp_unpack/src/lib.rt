@@ -3,12 +3,11 @@
 
 mod fault;
 mod lines;
-mod refusal;
 mod room;
 mod track;
 mod unpacking;
 
-pub use fault::{TrackTold, UnpackFault};
+pub use fault::UnpackFault;
 pub use lines::refused_scp_line;
 pub use room::UnpackRoom;
 pub use track::track_of;

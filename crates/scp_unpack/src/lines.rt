@@ -1,13 +1,13 @@
 //! The lines of what is told of a file and its tracks.
 
-ghost use Rattle.std.specs.Prelude.{◌≡◌, ◌+◌, ◌≤◌, ◌<◌, ◌++◌, codes, decimal};
-ghost use Rattle.arrayvec.specs.ArrayString.{array_string_len};
-ghost use Rattle.scp_unpack.specs.Lines.{fault_name, file_fault_name, refused_text, told_text, total_text};
+ghost use Rattle.std.specs.Prelude.{◌≡◌, ◌<◌};
+ghost use Rattle.scp_unpack.specs.Lines.{refused_text, told_text, total_text};
 
-use crate::fault::TrackTold;
 use flux_base::TrackId;
-use scp_files::{ScpFault, ScpTrackFault};
-use sector_report::{Line, put, put_fault, put_named, put_two_digits, put_u32};
+use scp_files::{ScpFault, TrackTold};
+use sector_report::{
+    Line, put, put_fault, put_named, put_scp_fault, put_scp_file_fault, put_two_digits, put_u32,
+};
 
 /// Why a track has no file, or not all of its revolutions: `CC.H refused scp` and the file's fault with its number, or
 /// `CC.H refused block B` and the fault of its stream. The cylinder is below 100.
@@ -23,7 +23,7 @@ pub(crate) fn told_line(track: TrackId, told: &TrackTold) -> Line
     match *told {
         TrackTold::Fault(fault) => {
             put(&mut line, " refused scp ");
-            put_track_fault(&mut line, fault);
+            put_scp_fault(&mut line, fault);
         }
         TrackTold::Refused { block, fault } => {
             put_named(&mut line, " refused block ", block);
@@ -54,32 +54,7 @@ pub fn refused_scp_line(fault: ScpFault) -> Line
 {
     let mut line = Line::new();
     put(&mut line, "refused scp ");
-    match fault {
-        ScpFault::ShortHeader(size) => put_named(&mut line, "ShortHeader ", u32::from(size)),
-        ScpFault::BadSignature => put(&mut line, "BadSignature"),
-        ScpFault::NotFloppy => put(&mut line, "NotFloppy"),
-        ScpFault::BadWidth(width) => put_named(&mut line, "BadWidth ", u32::from(width)),
-    }
+    put_scp_file_fault(&mut line, fault);
     put(&mut line, "\n");
     line
-}
-
-/// Appends the fault's name and its number.
-#[tactic(auto, unfolding(crate::specs::Lines::fault_name))]
-fn put_track_fault(line: &mut Line, fault: ScpTrackFault)
-    requires { array_string_len line.old + 40 ≤ 192 }
-    ensures bytes { line.new.bytes ≡ line.old.bytes ++ fault_name fault }
-    ensures len { array_string_len line.new ≤ array_string_len line.old + 40 }
-{
-    match fault {
-        ScpTrackFault::ShortTrack => put(line, "ShortTrack"),
-        ScpTrackFault::BadSignature => put(line, "BadSignature"),
-        ScpTrackFault::BadNumber(number) => put_named(line, "BadNumber ", u32::from(number)),
-        ScpTrackFault::TooLong => put(line, "TooLong"),
-        ScpTrackFault::ShortData(revolution) => put_named(
-            line,
-            "ShortData ",
-            u32::from(revolution),
-        ),
-    }
 }

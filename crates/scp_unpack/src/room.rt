@@ -6,12 +6,12 @@ use scp_files::Capture;
 use std::alloc::Global;
 use std::marker::Model;
 
-/// The most transitions and index times of a track.
+/// Room for the most transitions and index times of a stream.
 const MOST_TIMES: usize = 4194304;
 
-const MOST_INDEXES: usize = 256;
+const MOST_INDEXES: usize = 262144;
 
-/// All memory that unpacking an SCP file takes, 32 MiB: no call on it takes any.
+/// All memory that unpacking an SCP file takes, 34 MiB: no call on it takes any.
 #[derive(Drop)]
 pub struct UnpackRoom {
     pub(crate) capture: Capture,

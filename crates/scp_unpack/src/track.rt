@@ -11,17 +11,15 @@ ghost use Rattle.track_shelf.specs.Told.{with_failed};
 ghost use Rattle.track_shelf.specs.World.{told_at};
 ghost use Rattle.scp_tracks.specs.Tracks.{lost};
 ghost use Rattle.scp_unpack.specs.Files.{file_with, line_by};
-ghost use Rattle.scp_unpack.specs.Tracks.{came_of, stream_by, track_of};
+ghost use Rattle.scp_unpack.specs.Tracks.{came_of, stream_by, told_by, track_of};
 ghost use Rattle.scp_unpack.specs.inside.Came.{CanBeWritten, MakesTrack, came_read};
 
-use crate::fault::TrackTold;
 use crate::lines::told_line;
-use crate::refusal::{find_refusal, told_by};
 use file_maker::FileMaker;
 use flux_base::{Failed, Sink, TrackId};
 use flux_writer::write_times;
 use index_turns::TrackFlux;
-use scp_files::Capture;
+use scp_files::{Capture, ScpTrackFault, TrackTold, find_refusal};
 use scp_tracks::{TrackPlace, read_track};
 use sector_report::write_line;
 use track_shelf::{Shelf, file_name};
@@ -58,6 +56,17 @@ pub(crate) fn read_came<H: Shelf>(
     let refusal = find_refusal(fault, capture);
     let told = told_by(refusal, fault);
     Ok(TrackRead { refusal, told })
+}
+
+/// What is told of a track that is refused for this, if for anything, and was read with this fault, or none.
+fn told_by(refusal: Option<TrackTold>, fault: Option<ScpTrackFault>) -> Option<TrackTold>
+    ensures { result ≡ told_by refusal fault }
+{
+    match (refusal, fault) {
+        (Some(why), _) => Some(why),
+        (None, Some(fault)) => Some(TrackTold::Fault(fault)),
+        (None, None) => None,
+    }
 }
 
 /// Makes the file of the track of this number in the folder, the stream of these transitions and index times, where it

@@ -6,6 +6,7 @@ mod laws;
 mod line;
 mod naming;
 mod refused;
+mod scp_lines;
 mod sector_lines;
 mod stream_lines;
 mod totals;
@@ -17,6 +18,7 @@ pub use laws::{dumps_have_lines, sector_lines_tell, sectors_have_one_line, total
 pub use line::{Line, put, put_named, put_u32, put_u64, write_line};
 pub use naming::Naming;
 pub use refused::{image_line, put_fault, refused_capture_line, refused_line};
+pub use scp_lines::{put_scp_fault, put_scp_file_fault};
 pub use sector_lines::{named_line, put_place, put_two_digits, sector_line, total_line};
 pub use stream_lines::{transitions_line, turn_line};
 pub use totals::Totals;

@@ -1,5 +1,5 @@
 -- What is known of a track that was read into a capture.
-use Rattle.std.specs.Prelude.{◌≡◌, ◌≤◌, ◌<◌, ◌+◌, ◌^◌, ℕ, All, List, length, Option, Some, None}
+use Rattle.std.specs.Prelude.{◌≡◌, ◌≤◌, ◌<◌, ◌^◌, ℕ, All, List, length, Option, Some, None}
 use Rattle.std.specs.Prelude.{Result, Ok, Err}
 use Rattle.file_maker.specs.Made.{Made}
 use Rattle.file_maker.specs.Makes.{MakesFile}
@@ -7,12 +7,14 @@ use Rattle.flux_base.specs.declared.outside.Failed.{Failed}
 use Rattle.scp_unpack.specs.Files.{file_with}
 use Rattle.index_turns.specs.Track.{TrackState}
 use Rattle.flux_writer.specs.Trailing.{stream_of_capture}
+use Rattle.scp_files.specs.Tracks.{MOST_ENTRIES}
 use Rattle.scp_unpack.specs.Tracks.{TrackCame, stream_by}
 use Rattle.scp_unpack.specs.declared.track.TrackRead.{TrackRead}
 
 -- transitions and index times that can be written
 pub record CanBeWritten (flux : TrackState) : Type 0 where
-  pub few : length flux.times + length flux.indexes ≤ 4194560
+  pub few : length flux.times ≤ MOST_ENTRIES
+  pub turns : length flux.indexes ≤ 256
   pub early : All (λ time. time < 2 ^ 32) flux.times
   pub near : All (λ index. index < 2 ^ 32) flux.indexes
 

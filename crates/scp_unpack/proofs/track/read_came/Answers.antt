@@ -1,8 +1,8 @@
 use Rattle.std.proofs.Common.{◌≡◌, drop, ap, ◌∙◌}
+use Rattle.scp_files.specs.Disks.{kept_stream, refusal_of}
 use Rattle.scp_files.specs.Streams.{stream_of}
-use Rattle.scp_files.specs.Tracks.{durations_of, values_of}
-use Rattle.scp_tracks.specs.Tracks.{read_count}
-use Rattle.scp_unpack.specs.Tracks.{came_by, refusal_of}
+use Rattle.scp_files.specs.Tracks.{durations_of, read_count, values_of}
+use Rattle.scp_unpack.specs.Tracks.{came_by}
 use Rattle.scp_unpack.proofs.Refusing.{came-is}
 use Rattle.scp_unpack.proofs.track.read_came.Goals as goal
 
@@ -20,5 +20,5 @@ returns-clause-is g c files file told at =
     let it = c.find_refusal-refusal in
     came-is number capture.flux capture.resolution values durations c.in-Ok.fault it.result c.told_by-told.result
     (it.ensures.is values durations read.1) c.told_by-told.ensures (it.ensures.stream values durations read.1)
-    ∙ ap (λ n. came_by number (refusal_of c.in-Ok.fault n values durations) c.in-Ok.fault (stream_of n values durations)) resolution
-    ∙ ap (λ fault. came_by number (refusal_of fault c.args.resolution values durations) fault (stream_of c.args.resolution values durations)) read.0
+    ∙ ap (λ n. came_by number (refusal_of (kept_stream c.in-Ok.fault n values durations)) c.in-Ok.fault (stream_of n values durations)) resolution
+    ∙ ap (λ fault. came_by number (refusal_of (kept_stream fault c.args.resolution values durations)) fault (stream_of c.args.resolution values durations)) read.0

@@ -5,7 +5,8 @@ use Rattle.scp_tracks.specs.lemmas.Failing.{none-failed}
 use Rattle.scp_unpack.specs.Answers.{Asked, SaysOfTracks}
 use Rattle.scp_unpack.specs.Blamed.{unpack_lost}
 use Rattle.scp_unpack.specs.inside.Steps.{MakesBehind}
-use Rattle.scp_unpack.proofs.Beginning.{fault-is, says-whole, sized}
+use Rattle.scp_files.specs.lemmas.Beginnings.{sized}
+use Rattle.scp_unpack.proofs.Beginning.{fault-is, says-whole}
 use Rattle.scp_unpack.proofs.unpacking.unpack.Goals as goal
 
 pub returns-in-Some-clause-says : goal.returns-in-Some-clause-says
