@@ -1,3 +1,4 @@
 pub mod Tracks
+pub mod Reads
 pub mod inside
 pub mod lemmas

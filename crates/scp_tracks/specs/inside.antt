@@ -1,3 +1,4 @@
 -- What is said of the crate's inside alone.
+pub mod Made
 pub mod Places
 pub mod Walk

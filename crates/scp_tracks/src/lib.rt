@@ -3,7 +3,9 @@
 #![tactic(auto)]
 
 mod reading;
+mod stream;
 mod track;
 
 pub use reading::read_begin;
+pub use stream::{ScpRead, read_scp};
 pub use track::{TrackPlace, read_track};

@@ -2,13 +2,15 @@
 use Rattle.std.specs.Prelude.{◌≡◌, ℕ, zero, suc, Bool, List, [], drop, Option, Some, None, Result}
 use Rattle.std.specs.Prelude.{Ok, Err}
 use Rattle.std.specs.List.{find, flat_map, position_from}
-use Rattle.std.specs.Option.{is_none}
+use Rattle.std.specs.Option.{is_none, option_and_then}
 use Rattle.std.specs.Str.{bytes_eq}
 use Rattle.flux_base.specs.Outside.{risen}
 use Rattle.flux_base.specs.declared.outside.Failed.{Failed}
 use Rattle.flux_base.specs.declared.track.TrackId.{TrackId}
 use Rattle.sector_images.specs.Places.{tracks}
 use Rattle.sector_images.specs.declared.format.Format.{Format}
+use Rattle.scp_files.specs.Disks.{scp_track}
+use Rattle.scp_files.specs.declared.fault.ScpTrackFault.{ScpTrackFault}
 use Rattle.track_shelf.specs.Names.{folder_path}
 
 -- a file: its path, and its bytes
@@ -27,6 +29,10 @@ file_at files path = find (has_path path) files
 -- a track's file in a folder, if it is there
 abbrev pub file_of : List File → (folder : List ℕ) → TrackId → Option File
 file_of files folder track = file_at files (folder_path folder track)
+
+-- a track of an SCP file, if both are there
+abbrev pub scp_track_in : Option File → TrackId → Option (Result (List ℕ) ScpTrackFault)
+scp_track_in file track = option_and_then (λ (it : File). scp_track it.bytes track) file
 
 -- the number of the format's first track whose file the folder lacks, if it lacks one
 unfoldable pub first_missing : List File → List ℕ → Format → Option ℕ
