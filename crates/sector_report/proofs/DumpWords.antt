@@ -9,11 +9,11 @@ use Rattle.kryo_stream.specs.declared.fault.StreamFault.TheVariants.{Truncated, 
 use Rattle.sector_report.specs.DumpLines.{FaultFits, PassedFits, PassedLinesTell, dump_name, passed_text}
 use Rattle.sector_report.specs.Lines.{fault_text, two_digits}
 use Rattle.sector_report.specs.declared.dump_lines.Passed.{Passed}
-use Rattle.sector_report.specs.declared.dump_lines.Passed.TheVariants.{Absent, Failed, Refused}
+use Rattle.sector_report.specs.declared.dump_lines.Passed.TheVariants.{Absent, Failed, Refused, RefusedScp}
+use Rattle.sector_report.specs.ScpLines.{scp_fault_text}
+use Rattle.sector_report.proofs.FaultWords.{name_key, number-is, number_words}
+use Rattle.sector_report.proofs.ScpWords.{scp-back, scp_of, scp_words, scp_words-are}
 use Rattle.sector_report.proofs.LineWords.{IsWord, next, two-same, word-codes, word-decimal, word-two, word_at, words}
-
-number-is : (n : ℕ) → n < 2 ^ 64 → digits_value 10 (decimal n) ≡ n
-number-is n fits = (decimal_is_IsNumeral n fits).1
 
 -- the words of a fault and of the line end behind it
 abbrev fault_words : StreamFault → List (List ℕ)
@@ -28,15 +28,8 @@ fault_words IndexOrder = codes "IndexOrder" ∷ [] ∷ []
 fault_words NoTurn = codes "NoTurn" ∷ [] ∷ []
 fault_words TooLong = codes "TooLong" ∷ [] ∷ []
 
-number_shape : (name n : List ℕ) → ((name ++ codes " ") ++ n) ++ codes "\n" ≡ name ++ 32 ∷ (n ++ 10 ∷ [])
-number_shape name n = simp append_assoc
-
 numbers_shape : (name a b : List ℕ) → ((((name ++ codes " ") ++ a) ++ codes " ") ++ b) ++ codes "\n" ≡ name ++ 32 ∷ (a ++ 32 ∷ (b ++ 10 ∷ []))
 numbers_shape name a b = simp append_assoc
-
-number_words : (name : List ℕ) (n : ℕ) → IsWord name → words (((name ++ codes " ") ++ decimal n) ++ codes "\n") ≡ name ∷ decimal n ∷ [] ∷ []
-number_words name n is =
-    ap words (number_shape name (decimal n)) ∙ next name (decimal n ++ 10 ∷ []) 32 is refl ∙ ap (λ ws. name ∷ ws) (next (decimal n) [] 10 (word-decimal n) refl)
 
 fault_words-are : (fault : StreamFault) → words (fault_text fault ++ codes "\n") ≡ fault_words fault
 unfolding fault_text
@@ -55,10 +48,7 @@ fault_words-are IndexOrder = refl
 fault_words-are NoTurn = refl
 fault_words-are TooLong = refl
 
--- The fault of these words. No two names have the same length and the same first letter.
-abbrev name_key : List ℕ → ℕ
-name_key name = length name * 256 + get_or name 0 0
-
+-- the fault of these words
 abbrev fault_of : List (List ℕ) → StreamFault
 fault_of ws =
     let key = name_key (word_at ws 0) in
@@ -91,17 +81,21 @@ abbrev why_words : Passed → List (List ℕ)
 why_words Absent = codes "missing" ∷ [] ∷ []
 why_words Failed = codes "failed" ∷ [] ∷ []
 why_words (Refused block fault) = codes "refused" ∷ codes "block" ∷ decimal block ∷ fault_words fault
+why_words (RefusedScp fault) = codes "refused" ∷ codes "scp" ∷ scp_words fault
 
 abbrev why_of : List (List ℕ) → Passed
 why_of ws =
     if get_or (word_at ws 0) 0 0 == 109 then Absent else
-    if get_or (word_at ws 0) 0 0 == 102 then Failed else Refused (digits_value 10 (word_at ws 2)) (fault_of (drop 3 ws))
+    if get_or (word_at ws 0) 0 0 == 102 then Failed else
+    if get_or (word_at ws 1) 0 0 == 115 then RefusedScp (scp_of (drop 2 ws)) else
+    Refused (digits_value 10 (word_at ws 2)) (fault_of (drop 3 ws))
 
 why-back : (why : Passed) → PassedFits why → why_of (why_words why) ≡ why
 why-back Absent fits = refl
 why-back Failed fits = refl
 why-back (Refused block fault) fits =
     ap (λ n. Refused n (fault_of (fault_words fault))) (number-is block fits.0) ∙ ap (Refused block) (fault-back fault fits.1)
+why-back (RefusedScp fault) fits = ap RefusedScp (scp-back fault fits)
 
 name_shape : (c h d rest : List ℕ) → (((((c ++ codes ".") ++ h) ++ codes " dump ") ++ d) ++ codes " ") ++ rest ≡ c ++ 46 ∷ (h ++ 32 ∷ (codes "dump" ++ 32 ∷ (d ++ 32 ∷ rest)))
 name_shape c h d rest = simp append_assoc
@@ -129,6 +123,9 @@ refused_shape : (name block fault : List ℕ)
     → (((name ++ (codes "refused block " ++ block)) ++ codes " ") ++ fault) ++ codes "\n" ≡ name ++ (codes "refused" ++ 32 ∷ (codes "block" ++ 32 ∷ (block ++ 32 ∷ (fault ++ codes "\n"))))
 refused_shape name block fault = simp append_assoc
 
+scp_shape : (name fault : List ℕ) → ((name ++ codes "refused scp ") ++ fault) ++ codes "\n" ≡ name ++ (codes "refused" ++ 32 ∷ (codes "scp" ++ 32 ∷ (fault ++ codes "\n")))
+scp_shape name fault = simp append_assoc
+
 passed_words : (track : TrackId) (dump : ℕ) (why : Passed)
     → words (passed_text track dump why) ≡ two_digits track.cylinder ∷ decimal track.head ∷ codes "dump" ∷ decimal dump ∷ why_words why
 unfolding passed_text
@@ -143,6 +140,14 @@ passed_words track dump (Refused block fault) =
     ∙ ap (λ ws. codes "refused" ∷ ws) (next (codes "block") (decimal block ++ 32 ∷ end) 32 (word-codes (codes "block") refl) refl)
     ∙ ap (λ ws. codes "refused" ∷ codes "block" ∷ ws) (next (decimal block) end 32 (word-decimal block) refl)
     ∙ ap (λ ws. codes "refused" ∷ codes "block" ∷ decimal block ∷ ws) (fault_words-are fault))
+passed_words track dump (RefusedScp fault) =
+    let end : List ℕ = scp_fault_text fault ++ codes "\n" in
+    ap words (scp_shape (dump_name track dump) (scp_fault_text fault))
+    ∙ dump_words track dump (codes "refused" ++ 32 ∷ (codes "scp" ++ 32 ∷ end))
+    ∙ ap (λ ws. two_digits track.cylinder ∷ decimal track.head ∷ codes "dump" ∷ decimal dump ∷ ws)
+    (next (codes "refused") (codes "scp" ++ 32 ∷ end) 32 (word-codes (codes "refused") refl) refl
+    ∙ ap (λ ws. codes "refused" ∷ ws) (next (codes "scp") end 32 (word-codes (codes "scp") refl) refl)
+    ∙ ap (λ ws. codes "refused" ∷ codes "scp" ∷ ws) (scp_words-are fault))
 
 pub passed_lines_tell : PassedLinesTell
 passed_lines_tell track track' dump dump' why why' fits fits' same =

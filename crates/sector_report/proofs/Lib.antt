@@ -1,3 +1,5 @@
 pub mod LineEnds
 pub mod LineWords
+pub mod FaultWords
+pub mod ScpWords
 pub mod DumpWords

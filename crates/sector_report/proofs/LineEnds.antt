@@ -13,9 +13,13 @@ use Rattle.turn_merge.specs.declared.verdict.Verdict.{Verdict}
 use Rattle.turn_merge.specs.declared.verdict.Verdict.TheVariants.{Good, Contradictory, Bad, Missing}
 use Rattle.kryo_stream.specs.declared.fault.StreamFault.{StreamFault}
 use Rattle.kryo_stream.specs.declared.fault.StreamFault.TheVariants.{Truncated, UnknownType, BadSize, WrongPosition, DeviceFault, DataAfterEnd, IndexPosition, IndexOrder, NoTurn, TooLong}
+use Rattle.scp_files.specs.declared.fault.ScpTrackFault.{ScpTrackFault}
+use Rattle.scp_files.specs.declared.fault.ScpTrackFault.TheVariants.{BadNumber, BadSignature, ShortData, ShortTrack}
+use Rattle.scp_files.specs.declared.fault.ScpTrackFault.TheVariants.{TooLong as TrackTooLong}
 use Rattle.sector_report.specs.DumpLines.{DumpsHaveLines, dump_name, name_text, other_text, passed_text, traces_text, unread_text, untold_text}
 use Rattle.sector_report.specs.declared.dump_lines.Passed.{Passed}
-use Rattle.sector_report.specs.declared.dump_lines.Passed.TheVariants.{Absent, Failed, Refused}
+use Rattle.sector_report.specs.declared.dump_lines.Passed.TheVariants.{Absent, Failed, Refused, RefusedScp}
+use Rattle.sector_report.specs.ScpLines.{scp_fault_text}
 use Rattle.sector_report.specs.LineLaws.{IsOneLine, SectorsHaveOneLine, TotalsHaveOneLine, line_ends}
 use Rattle.sector_report.specs.Lines.{fault_text, named_text, number_of_clock, place_text, sector_name, source_text, total_text, two_digits, verdict_text}
 use Rattle.sector_report.specs.declared.naming.Naming.{Naming}
@@ -118,6 +122,14 @@ none-fault IndexOrder = none-codes (codes "IndexOrder") refl
 none-fault NoTurn = none-codes (codes "NoTurn") refl
 none-fault TooLong = none-codes (codes "TooLong") refl
 
+none-scp : (fault : ScpTrackFault) → HasNone (scp_fault_text fault)
+unfolding scp_fault_text
+none-scp ShortTrack = none-codes (codes "ShortTrack") refl
+none-scp BadSignature = none-codes (codes "BadSignature") refl
+none-scp (BadNumber number) = none-append (none-codes (codes "BadNumber ") refl) (none-decimal number)
+none-scp TrackTooLong = none-codes (codes "TooLong") refl
+none-scp (ShortData revolution) = none-append (none-codes (codes "ShortData ") refl) (none-decimal revolution)
+
 none-dump : (track : TrackId) (dump : ℕ) → HasNone (dump_name track dump)
 unfolding dump_name
 none-dump track dump =
@@ -142,6 +154,11 @@ passed-line track dump (Refused block fault) = record {
   once =
       (none-append (none-append (none-append (none-dump track dump) (none-append (none-codes (codes "refused block ") refl) (none-decimal block))) space)
       (none-fault fault)).none;
+}
+passed-line track dump (RefusedScp fault) = record {
+  front = dump_name track dump ++ codes "refused scp " ++ scp_fault_text fault;
+  ends = refl;
+  once = (none-append (none-append (none-dump track dump) (none-codes (codes "refused scp ") refl)) (none-scp fault)).none;
 }
 
 none-four : (a b c d : ℕ) → HasNone (codes " " ++ decimal a ++ codes " " ++ decimal b ++ codes " " ++ decimal c ++ codes " " ++ decimal d)

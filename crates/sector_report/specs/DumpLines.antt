@@ -8,11 +8,15 @@ use Rattle.flux_base.specs.declared.header_name.HeaderName.{HeaderName}
 use Rattle.flux_base.specs.declared.header_name.HeaderName.TheVariants.{Address, TrackSector}
 use Rattle.flux_base.specs.declared.header_name.HeaderName.TheVariants.{TrackSectorSide}
 use Rattle.sector_report.specs.LineLaws.{IsOneLine}
+use Rattle.scp_files.specs.declared.fault.ScpTrackFault.{ScpTrackFault}
+use Rattle.scp_files.specs.declared.fault.ScpTrackFault.TheVariants.{BadNumber, ShortData}
 use Rattle.sector_report.specs.Lines.{fault_text, place_text, two_digits}
+use Rattle.sector_report.specs.ScpLines.{scp_fault_text}
 use Rattle.sector_report.specs.declared.naming.Naming.{Naming}
 use Rattle.turn_merge.specs.declared.others.OtherTold.{OtherTold}
 use Rattle.sector_report.specs.declared.dump_lines.Passed.{Passed}
 use Rattle.sector_report.specs.declared.dump_lines.Passed.TheVariants.{Absent, Failed, Refused}
+use Rattle.sector_report.specs.declared.dump_lines.Passed.TheVariants.{RefusedScp}
 
 -- a track, and a dump of it
 unfoldable pub dump_name : TrackId → (dump : ℕ) → List ℕ
@@ -26,6 +30,8 @@ passed_text track dump Failed = dump_name track dump ++ codes "failed" ++ codes 
 passed_text track dump (Refused block fault) =
     dump_name track dump ++ (codes "refused block " ++ decimal block) ++ codes " "
     ++ fault_text fault ++ codes "\n"
+passed_text track dump (RefusedScp fault) =
+    dump_name track dump ++ codes "refused scp " ++ scp_fault_text fault ++ codes "\n"
 
 -- the numbers of a header's name, each with a blank before it
 unfoldable pub name_text : HeaderName → List ℕ
@@ -78,10 +84,16 @@ FaultFits (WrongPosition said counted) = (said < 2 ^ 64) × (counted < 2 ^ 64)
 FaultFits (DeviceFault code) = code < 2 ^ 64
 FaultFits fault = Unit {0}
 
+abbrev pub ScpFaultFits : ScpTrackFault → Type 0
+ScpFaultFits (BadNumber number) = number < 2 ^ 64
+ScpFaultFits (ShortData revolution) = revolution < 2 ^ 64
+ScpFaultFits fault = Unit {0}
+
 abbrev pub PassedFits : Passed → Type 0
 PassedFits Absent = Unit {0}
 PassedFits Failed = Unit {0}
 PassedFits (Refused block fault) = (block < 2 ^ 64) × FaultFits fault
+PassedFits (RefusedScp fault) = ScpFaultFits fault
 
 -- all numbers of a line of a stream that was passed over do
 pub record PassedLineFits (track : TrackId) (dump : ℕ) (why : Passed) : Type 0 where

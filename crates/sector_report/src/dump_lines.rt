@@ -8,9 +8,11 @@ ghost use Rattle.sector_report.specs.DumpLines.{unread_text, untold_text};
 use crate::line::{Line, put, put_named, put_u8, put_u64};
 use crate::naming::Naming;
 use crate::refused::put_fault;
+use crate::scp_lines::put_scp_fault;
 use crate::sector_lines::{put_number, put_place, put_track};
 use flux_base::{HeaderName, TrackId};
 use kryo_stream::StreamFault;
+use scp_files::ScpTrackFault;
 use turn_merge::OtherTold;
 
 /// Why a dump's stream of a track was passed over.
@@ -26,10 +28,13 @@ pub enum Passed {
         block: u32,
         fault: StreamFault,
     },
+    /// The track of an SCP file is refused.
+    RefusedScp(ScpTrackFault),
 }
 
 /// That a dump's stream of a track was passed over, and why: `CC.H dump D missing`, `CC.H dump D failed`, or
-/// `CC.H dump D refused block B` and the fault with its numbers. The cylinder is below 100.
+/// `CC.H dump D refused block B` or `CC.H dump D refused scp` and the fault with its numbers. The cylinder is below
+/// 100.
 #[tactic(auto, unfolding(crate::specs::DumpLines::passed_text))]
 pub fn passed_line(track: TrackId, dump: u8, passed: &Passed) -> Line
     requires { track.cylinder < 100 }
@@ -44,6 +49,10 @@ pub fn passed_line(track: TrackId, dump: u8, passed: &Passed) -> Line
             put_named(&mut line, "refused block ", block);
             put(&mut line, " ");
             put_fault(&mut line, &fault);
+        }
+        Passed::RefusedScp(fault) => {
+            put(&mut line, "refused scp ");
+            put_scp_fault(&mut line, fault);
         }
     }
     put(&mut line, "\n");
