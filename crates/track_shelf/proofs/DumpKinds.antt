@@ -12,11 +12,12 @@ use Rattle.std.proofs.lemmas.Slice.Eq.{bytes_eq-Decides}
 use Rattle.std.proofs.lemmas.Str.{IsUtf8-from_is_utf8, is_utf8-from_IsUtf8}
 use Rattle.std.proofs.Math.Bool.{or-false}
 use Rattle.std.proofs.Math.Seq.{drop-append-add, take-append-add}
+use Rattle.scp_files.specs.declared.fault.ScpFault.{ScpFault}
 use Rattle.track_shelf.specs.Files.{File}
 use Rattle.track_shelf.specs.DumpKinds.{MOST_PREFIX, first_named, is_plain, is_prefix, kind_by, kind_of_folder, name_in, names_in, prefix_of}
 use Rattle.track_shelf.specs.Names.{ENDING_SIZE, names_file}
 use Rattle.track_shelf.specs.declared.kind.DumpKind.{DumpKind}
-use Rattle.track_shelf.specs.declared.kind.DumpKind.TheVariants.{NotThere, AFile, NoFiles, OtherTracks, Named, Unknown}
+use Rattle.track_shelf.specs.declared.kind.DumpKind.TheVariants.{NotThere, AFile, NoFiles, OtherTracks, Named, RefusedScp, Unknown}
 
 pub false_true : false ≡ true → ⊥
 false_true e = cc
@@ -31,6 +32,7 @@ with_files prefix (Named first) = if is_track prefix then OtherTracks else Named
 with_files prefix NotThere = if is_track prefix then OtherTracks else Named prefix
 with_files prefix AFile = if is_track prefix then OtherTracks else Named prefix
 with_files prefix NoFiles = if is_track prefix then OtherTracks else Named prefix
+with_files prefix (RefusedScp fault) = if is_track prefix then OtherTracks else Named prefix
 with_files prefix Unknown = if is_track prefix then OtherTracks else Named prefix
 
 -- where these are files `trackCC.H.raw`
@@ -40,6 +42,7 @@ files-of prefix (Named first) is = ap (λ (b : Bool). if b then OtherTracks else
 files-of prefix NotThere is = ap (λ (b : Bool). if b then OtherTracks else Named prefix) is
 files-of prefix AFile is = ap (λ (b : Bool). if b then OtherTracks else Named prefix) is
 files-of prefix NoFiles is = ap (λ (b : Bool). if b then OtherTracks else Named prefix) is
+files-of prefix (RefusedScp fault) is = ap (λ (b : Bool). if b then OtherTracks else Named prefix) is
 files-of prefix Unknown is = ap (λ (b : Bool). if b then OtherTracks else Named prefix) is
 
 -- and where they are others, and the first
@@ -50,6 +53,10 @@ first-of prefix kind none (inr (inl is)) = ap (with_files prefix) is ∙ ap (λ 
 first-of prefix kind none (inr (inr (inl is))) = ap (with_files prefix) is ∙ ap (λ (b : Bool). if b then OtherTracks else Named prefix) none
 first-of prefix kind none (inr (inr (inr is))) = ap (with_files prefix) is ∙ ap (λ (b : Bool). if b then OtherTracks else Named prefix) none
 
+pub first-scp : (prefix : List ℕ) (kind : DumpKind) {fault : ScpFault} → is_track prefix ≡ false → kind ≡ RefusedScp fault
+    → with_files prefix kind ≡ Named prefix
+first-scp prefix kind none is = ap (with_files prefix) is ∙ ap (λ (b : Bool). if b then OtherTracks else Named prefix) none
+
 -- what it is with one name more, whose prefix this is
 abbrev pub kind_with : Option (List ℕ) → DumpKind → DumpKind
 kind_with (Some prefix) kind = with_files prefix kind
@@ -58,6 +65,7 @@ kind_with None AFile = AFile
 kind_with None NoFiles = NoFiles
 kind_with None OtherTracks = OtherTracks
 kind_with None (Named first) = Named first
+kind_with None (RefusedScp fault) = RefusedScp fault
 kind_with None Unknown = Unknown
 
 one-more : (prefixes : List (List ℕ)) (prefix : List ℕ) → kind_by (prefixes ++ prefix ∷ []) ≡ with_files prefix (kind_by prefixes)

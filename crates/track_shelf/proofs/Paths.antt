@@ -1,17 +1,17 @@
 -- The paths of the files of dumps.
 use Rattle.std.proofs.Common.{◌≡◌, ◌<◌, ◌≤◌, ◌+◌, ◌-◌, ◌*◌, ◌/◌, ◌%◌, ◌&&◌, ◌||◌, ◌==◌, ℕ, Bool, true, false, List, [], ◌∷◌, ◌++◌, length, take, drop, get_or, nat_lt, codes, decimal, arith, refl, sym, ◌∙◌, ap, subst, ◌^◌, append_assoc, length-append, length-take, if◌then◌else◌}
 use Rattle.std.proofs.lemmas.Bool.Decides.{Decides-eqb, Decides-ltb, nat_tests}
-use Rattle.std.proofs.lemmas.List.{take-append-drop}
+use Rattle.std.proofs.lemmas.List.{drop-drop, take-append-drop}
 use Rattle.std.proofs.lemmas.Slice.Eq.{bytes_eq-Decides}
 use Rattle.std.proofs.Math.Seq.{drop-append_seam, take-append_seam}
 use Rattle.std.proofs.lemmas.Fmt.{IsAscii-decimal, decimal_digit}
 use Rattle.std.proofs.lemmas.Str.Ascii.{IsAscii-cons, IsAscii-nil}
 use Rattle.std.proofs.lemmas.Str.{IsAscii-append, IsCharBoundary-at_seam, IsCharBoundary-start, IsUtf8-between, IsUtf8-from_ascii}
 use Rattle.std.specs.List.{list_all}
-use Rattle.std.specs.Str.{IsAscii, IsUtf8, bytes_eq}
+use Rattle.std.specs.Str.{IsAscii, IsUtf8, bytes_eq, str_eq_ignore_ascii_case}
 use Rattle.flux_base.specs.declared.track.TrackId.{TrackId}
 use Rattle.sector_report.specs.Lines.{two_digits}
-use Rattle.track_shelf.specs.Names.{ENDING_SIZE, FilesNameDumps, FolderPathsTell, IsNamed, NamesAreFiles, ending_text, file_name_text, folder_path, is_digit, is_ending, names_file, path_text}
+use Rattle.track_shelf.specs.Names.{ENDING_SIZE, FilesNameDumps, FolderPathsTell, IsNamed, NamesAreFiles, ScpDumpsAreFiles, ending_text, file_name_text, folder_path, is_digit, is_ending, is_scp, names_file, path_text}
 
 -- the ending of a track's numbers, byte by byte
 abbrev ending : (tens ones head : ℕ) → List ℕ
@@ -73,9 +73,13 @@ pub long-name : (dump : List ℕ) → names_file dump ≡ true → 8 < length du
 unfolding names_file
 long-name dump named = (Decides-ltb 8 (length dump)).0 (both (nat_lt 8 (length dump)) (is_ending (drop (length dump - 8) dump)) named).0
 
-stem-of : (dump : List ℕ) → Stem dump
+-- the path in a dump that is not named by a file
+abbrev other : (dump : List ℕ) → TrackId → List ℕ
+other dump track = if is_scp dump then dump else folder_path dump track
+
+stem-of : (dump : List ℕ) → (names_file dump ≡ false → is_scp dump ≡ false) → Stem dump
 unfolding path_text
-stem-of dump = by (names_file dump) refl
+stem-of dump folder = by (names_file dump) refl
   where
     by : (b : Bool) → names_file dump ≡ b → Stem dump
     by true named =
@@ -83,12 +87,14 @@ stem-of dump = by (names_file dump) refl
         record {
           stem = front;
           some = (let long = long-name dump named in let size = length-take (length dump - 8) dump in omega (arith, long, size));
-          is = λ track. ap (λ (b : Bool). if b then front ++ ending_text track else folder_path dump track) named;
+          is = λ track. ap (λ (b : Bool). if b then front ++ ending_text track else other dump track) named;
         }
     by false named = record {
       stem = dump ++ codes "/track";
       some = (let size = length-append dump (codes "/track") in omega (arith, size));
-      is = λ track. ap (λ (b : Bool). if b then take (length dump - ENDING_SIZE) dump ++ ending_text track else folder_path dump track) named ∙ in-folder dump track;
+      is = λ track.
+          ap (λ (b : Bool). if b then take (length dump - ENDING_SIZE) dump ++ ending_text track else other dump track) named
+          ∙ ap (λ (b : Bool). if b then dump else folder_path dump track) (folder named) ∙ in-folder dump track;
     }
 
 -- a path that ends like a track's
@@ -102,14 +108,9 @@ from-stem stem one track some named =
     let end : is_ending (drop (length (stem ++ e) - ENDING_SIZE) (stem ++ e)) ≡ true =
     ap (λ n. is_ending (drop n (stem ++ e))) before ∙ ap is_ending (drop-append_seam stem e) ∙ ends one named in
     let front : take (length (stem ++ e) - ENDING_SIZE) (stem ++ e) ≡ stem = ap (λ n. take n (stem ++ e)) before ∙ take-append_seam stem e in
-    ap (λ (b : Bool). if b && is_ending (drop (length (stem ++ e) - ENDING_SIZE) (stem ++ e)) then take (length (stem ++ e) - ENDING_SIZE) (stem ++ e) ++ ending_text track else folder_path (stem ++ e) track) long
-    ∙ ap (λ (b : Bool). if b then take (length (stem ++ e) - ENDING_SIZE) (stem ++ e) ++ ending_text track else folder_path (stem ++ e) track) end
+    ap (λ (b : Bool). if b && is_ending (drop (length (stem ++ e) - ENDING_SIZE) (stem ++ e)) then take (length (stem ++ e) - ENDING_SIZE) (stem ++ e) ++ ending_text track else other (stem ++ e) track) long
+    ∙ ap (λ (b : Bool). if b then take (length (stem ++ e) - ENDING_SIZE) (stem ++ e) ++ ending_text track else other (stem ++ e) track) end
     ∙ ap (λ (s : List ℕ). s ++ ending_text track) front
-
-pub files-name-dumps : FilesNameDumps
-files-name-dumps dump one track named =
-    let s = stem-of dump in
-    ap (λ (d : List ℕ). path_text d track) (s.is one) ∙ from-stem s.stem one track s.some named ∙ sym (s.is track)
 
 -- the track of an ending
 record Ended (bytes : List ℕ) : Type 0 where
@@ -163,10 +164,43 @@ names-are-files dump named =
     let e = ended back (both (nat_lt ENDING_SIZE (length dump)) (is_ending back) named).1 in (
       e.track,
       e.named,
-      ap (λ (b : Bool). if b then take (length dump - ENDING_SIZE) dump ++ ending_text e.track else folder_path dump e.track) named
+      ap (λ (b : Bool). if b then take (length dump - ENDING_SIZE) dump ++ ending_text e.track else other dump e.track) named
           ∙ ap (λ (end : List ℕ). take (length dump - ENDING_SIZE) dump ++ end) e.is
           ∙ take-append-drop (length dump - ENDING_SIZE) dump,
     )
+
+-- a name that ends with `.scp` does not end as that of a track's file
+scp-ends : (dump : List ℕ) → names_file dump ≡ true → is_scp dump ≡ true → ⊥
+unfolding names_file is_scp
+scp-ends dump named scp =
+    let back = drop (length dump - ENDING_SIZE) dump in
+    let e = ended back (both (nat_lt ENDING_SIZE (length dump)) (is_ending back) named).1 in
+    let long = long-name dump named in
+    let seam : (length dump - 8) + 4 ≡ length dump - 4 = omega (arith, long) in
+    let last : drop (length dump - 4) dump ≡ codes ".raw" =
+    ap (λ n. drop n dump) (sym seam) ∙ sym (drop-drop 4 (length dump - 8) dump) ∙ ap (drop 4) (sym e.is ∙ ending-is e.track e.named) in
+    let same = (both (nat_lt 4 (length dump)) (str_eq_ignore_ascii_case (drop (length dump - 4) dump) (codes ".scp")) scp).1 in
+    false_true (ap (λ bytes. str_eq_ignore_ascii_case bytes (codes ".scp")) (sym last) ∙ same)
+
+pub scp-dumps-are-files : ScpDumpsAreFiles
+unfolding path_text
+scp-dumps-are-files dump track scp =
+    by (names_file dump) refl
+  where
+    by : (b : Bool) → names_file dump ≡ b → path_text dump track ≡ dump
+    by true named = absurd (scp-ends dump named scp)
+    by false named =
+        ap (λ (b : Bool). if b then take (length dump - ENDING_SIZE) dump ++ ending_text track else other dump track) named
+        ∙ ap (λ (b : Bool). if b then dump else folder_path dump track) scp
+
+pub files-name-dumps : FilesNameDumps
+files-name-dumps dump one track named = by (is_scp dump) refl
+  where
+    by : (b : Bool) → is_scp dump ≡ b → path_text (path_text dump one) track ≡ path_text dump track
+    by true scp = ap (λ (d : List ℕ). path_text d track) (scp-dumps-are-files dump one scp)
+    by false scp =
+        let s = stem-of dump (λ _. scp) in
+        ap (λ (d : List ℕ). path_text d track) (s.is one) ∙ from-stem s.stem one track s.some named ∙ sym (s.is track)
 
 -- two texts with ends of one length
 same-ends : (a a' b b' : List ℕ) → length b ≡ length b' → a ++ b ≡ a' ++ b' → (a ≡ a') × (b ≡ b')

@@ -4,10 +4,12 @@ use Rattle.std.specs.Prelude.{◌++◌, length, take, drop, nat_le, codes, Optio
 use Rattle.std.specs.List.{filter_map, list_all, list_any}
 use Rattle.std.specs.Str.{bytes_eq, is_utf8}
 use Rattle.track_shelf.specs.Files.{File, file_at}
-use Rattle.track_shelf.specs.Names.{ENDING_SIZE, names_file}
+use Rattle.scp_files.specs.Files.{file_fault}
+use Rattle.scp_files.specs.declared.fault.ScpFault.{ScpFault}
+use Rattle.track_shelf.specs.Names.{ENDING_SIZE, is_scp, names_file}
 use Rattle.track_shelf.specs.declared.kind.DumpKind.{DumpKind}
 use Rattle.track_shelf.specs.declared.kind.DumpKind.TheVariants.{NotThere, AFile, NoFiles}
-use Rattle.track_shelf.specs.declared.kind.DumpKind.TheVariants.{OtherTracks, Named}
+use Rattle.track_shelf.specs.declared.kind.DumpKind.TheVariants.{OtherTracks, Named, RefusedScp}
 
 -- a byte of a name: no control character, and no slash
 abbrev pub is_plain : ℕ → Bool
@@ -51,11 +53,21 @@ unfoldable pub kind_of_folder : (names : List (List ℕ)) → DumpKind
 kind_of_folder [] = NotThere
 kind_of_folder (name ∷ names) = kind_by (filter_map prefix_of (name ∷ names))
 
+-- an SCP file: whether it is there, and why it has no tracks, if it has a fault
+abbrev pub kind_by_fault : Option ScpFault → DumpKind
+kind_by_fault None = OtherTracks
+kind_by_fault (Some fault) = RefusedScp fault
+
+abbrev pub kind_of_scp : Option File → DumpKind
+kind_of_scp None = NotThere
+kind_of_scp (Some file) = kind_by_fault (file_fault file.bytes)
+
 -- what lies there: of a dump that is named by a file, whether that file does
 unfoldable pub kind_in : List File → (dump : List ℕ) → DumpKind
 kind_in files dump =
     if names_file dump
     then (if is_some (file_at files dump) then OtherTracks else NotThere)
+    else if is_scp dump then kind_of_scp (file_at files dump)
     else (if is_some (file_at files dump) then AFile else kind_of_folder (names_in files dump))
 
 -- what is said of it is so, where the files are told

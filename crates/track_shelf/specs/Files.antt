@@ -1,8 +1,8 @@
 -- The files of dumps, and which of them a folder and a path have.
 use Rattle.std.specs.Prelude.{◌≡◌, ℕ, zero, suc, Bool, List, [], drop, Option, Some, None, Result}
-use Rattle.std.specs.Prelude.{Ok, Err}
+use Rattle.std.specs.Prelude.{Ok, Err, if◌then◌else◌}
 use Rattle.std.specs.List.{find, flat_map, position_from}
-use Rattle.std.specs.Option.{is_none, option_and_then}
+use Rattle.std.specs.Option.{is_none, is_some, option_and_then, option_map}
 use Rattle.std.specs.Str.{bytes_eq}
 use Rattle.flux_base.specs.Outside.{risen}
 use Rattle.flux_base.specs.declared.outside.Failed.{Failed}
@@ -11,7 +11,7 @@ use Rattle.sector_images.specs.Places.{tracks}
 use Rattle.sector_images.specs.declared.format.Format.{Format}
 use Rattle.scp_files.specs.Disks.{scp_track}
 use Rattle.scp_files.specs.declared.fault.ScpTrackFault.{ScpTrackFault}
-use Rattle.track_shelf.specs.Names.{folder_path}
+use Rattle.track_shelf.specs.Names.{folder_path, is_scp, path_text}
 
 -- a file: its path, and its bytes
 pub record File : Type 0 where
@@ -33,6 +33,19 @@ file_of files folder track = file_at files (folder_path folder track)
 -- a track of an SCP file, if both are there
 abbrev pub scp_track_in : Option File → TrackId → Option (Result (List ℕ) ScpTrackFault)
 scp_track_in file track = option_and_then (λ (it : File). scp_track it.bytes track) file
+
+-- A track of a dump, if it is there: all bytes of its file; or of an SCP file the stream that the
+-- track stands for, or why it stands for none.
+abbrev pub dump_track : List File → (dump : List ℕ) → TrackId
+    → Option (Result (List ℕ) ScpTrackFault)
+dump_track files dump track =
+    if is_scp dump
+    then scp_track_in (file_at files dump) track
+    else option_map (λ (file : File). Ok file.bytes) (file_at files (path_text dump track))
+
+-- whether it is there
+abbrev pub has_track : List File → (dump : List ℕ) → TrackId → Bool
+has_track files dump track = is_some (dump_track files dump track)
 
 -- the number of the format's first track whose file the folder lacks, if it lacks one
 unfoldable pub first_missing : List File → List ℕ → Format → Option ℕ

@@ -1,7 +1,8 @@
 -- How the files of a dump are named, and what is said of one that is missing.
 use Rattle.std.specs.Prelude.{◌≡◌, ◌<◌, ◌-◌, ◌&&◌, ◌||◌, ◌==◌, if◌then◌else◌, ℕ, Bool, false, true}
-use Rattle.std.specs.Prelude.{List, ◌∷◌, ◌++◌, length, take, drop, nat_le, nat_lt, codes, decimal}
-use Rattle.std.specs.Str.{bytes_eq}
+use Rattle.std.specs.Prelude.{List, ◌∷◌, ◌++◌, length, take, drop, nat_le, nat_lt, not, codes}
+use Rattle.std.specs.Prelude.{decimal}
+use Rattle.std.specs.Str.{bytes_eq, str_eq_ignore_ascii_case}
 use Rattle.flux_base.specs.declared.track.TrackId.{TrackId}
 use Rattle.sector_report.specs.Lines.{two_digits}
 
@@ -36,11 +37,24 @@ unfoldable pub names_file : (dump : List ℕ) → Bool
 names_file dump =
     nat_lt ENDING_SIZE (length dump) && is_ending (drop (length dump - ENDING_SIZE) dump)
 
--- The path of a track's file in a dump. The files of a dump that is named by one of them begin with
--- what stands before the ending of its name; any other dump is a folder.
+-- a dump is an SCP file: its name ends with `.scp`, in letters of any case, and something stands
+-- before
+unfoldable pub is_scp : (dump : List ℕ) → Bool
+is_scp dump =
+    nat_lt 4 (length dump)
+    && str_eq_ignore_ascii_case (drop (length dump - 4) dump) (codes ".scp")
+
+-- any other dump is a folder
+abbrev pub is_folder : (dump : List ℕ) → Bool
+is_folder dump = not (names_file dump || is_scp dump)
+
+-- The path of the file of a track in a dump. The files of a dump that is named by one of them begin
+-- with what stands before the ending of its name; an SCP file has all tracks; any other dump is a
+-- folder.
 unfoldable pub path_text : (dump : List ℕ) → TrackId → List ℕ
 path_text dump track =
     if names_file dump then take (length dump - ENDING_SIZE) dump ++ ending_text track
+    else if is_scp dump then dump
     else folder_path dump track
 
 -- a track's numbers have two digits and one, 0 or 1
@@ -52,6 +66,11 @@ pub record IsNamed (track : TrackId) : Type 0 where
 abbrev pub FilesNameDumps : Type 0
 FilesNameDumps = (dump : List ℕ) (one track : TrackId) → IsNamed one
     → path_text (path_text dump one) track ≡ path_text dump track
+
+-- an SCP file has one path, for all tracks
+abbrev pub ScpDumpsAreFiles : Type 0
+ScpDumpsAreFiles = (dump : List ℕ) (track : TrackId) → is_scp dump ≡ true
+    → path_text dump track ≡ dump
 
 -- and what names it so is one of its files
 abbrev pub NamesAreFiles : Type 0

@@ -7,6 +7,7 @@ ghost use Rattle.track_shelf.specs.DumpKinds.{is_plain, is_prefix, kind_of_folde
 
 use crate::path::{ENDING_SIZE, names_file};
 use arrayvec::{ArrayString, ArrayVec};
+use scp_files::ScpFault;
 use std::marker::Model;
 
 /// The most bytes of a prefix: a system's names have at most 255.
@@ -112,10 +113,12 @@ pub enum DumpKind {
     AFile,
     /// A folder without files `trackCC.H.raw`, and without files of a dump of another name.
     NoFiles,
-    /// Files of tracks: the dump is named by one, or it is a folder in which are files `trackCC.H.raw`.
+    /// Files of tracks: the dump is named by one, or it is a folder in which are files `trackCC.H.raw`. Or an SCP file.
     OtherTracks,
     /// A folder without files `trackCC.H.raw`, but with files `PREFIXCC.H.raw`.
     Named(Prefix),
+    /// An SCP file that has no tracks, for this fault.
+    RefusedScp(ScpFault),
     /// It cannot be looked at.
     Unknown,
 }
@@ -141,6 +144,7 @@ impl DumpKind {
                 DumpKind::NoFiles => DumpKind::NoFiles,
                 DumpKind::OtherTracks => DumpKind::OtherTracks,
                 DumpKind::Named(first) => DumpKind::Named(first),
+                DumpKind::RefusedScp(fault) => DumpKind::RefusedScp(fault),
                 DumpKind::Unknown => DumpKind::Unknown,
             };
         };
@@ -153,6 +157,7 @@ impl DumpKind {
             DumpKind::NotThere | DumpKind::AFile | DumpKind::NoFiles | DumpKind::Unknown => {
                 DumpKind::Named(prefix)
             }
+            DumpKind::RefusedScp(_) => DumpKind::Named(prefix),
         }
     }
 }

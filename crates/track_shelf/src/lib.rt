@@ -7,6 +7,7 @@ mod laws;
 mod memory;
 mod names;
 mod path;
+mod scp;
 mod shelf;
 mod stepping;
 
@@ -14,6 +15,6 @@ pub use kind::{DumpKind, Prefix};
 pub use laws::{files_name_dumps, folder_paths_tell};
 pub use memory::{MemoryShelf, ShelfFile};
 pub use names::{file_name, missing_line};
-pub use path::{Path, TrackPath, names_file};
+pub use path::{Path, TrackPath, is_scp, names_file};
 pub use shelf::Shelf;
 pub use stepping::Stepping;

@@ -17,7 +17,8 @@ ghost use Rattle.track_shelf.specs.Memory.{read_of, with_bytes};
 ghost use Rattle.track_shelf.specs.Names.{folder_path, path_text};
 
 use crate::kind::{DumpKind, Prefix};
-use crate::path::{TrackPath, folder_end, names_file};
+use crate::path::{TrackPath, folder_end, is_scp, names_file};
+use crate::scp::{has_track, kind_of_scp};
 use crate::shelf::Shelf;
 use arrayvec::ArrayVec;
 use flux_base::{Failed, Source, TrackId, copy_front};
@@ -75,7 +76,7 @@ impl ShelfFile {
     }
 
     /// Whether this is its path.
-    fn is_named(&self, path: &[u8]) -> bool
+    pub(crate) fn is_named(&self, path: &[u8]) -> bool
         ensures { result ≡ has_path path.now self.now }
     {
         are_same(&self.front, self.back.as_str().as_bytes(), path, &[])
@@ -97,7 +98,7 @@ impl ShelfFile {
         }
     }
 
-    fn bytes(&self) -> &[u8]
+    pub(crate) fn bytes(&self) -> &[u8]
         ensures { result.now ≡ self.now.bytes }
     {
         &self.bytes
@@ -143,7 +144,7 @@ fn goes_on(short: &[u8], after_short: &[u8], long: &[u8], after_long: &[u8]) -> 
 }
 
 /// Where the file of a path lies among the files.
-fn place_of(files: &[ShelfFile], path: &TrackPath) -> Option<usize>
+pub(crate) fn place_of(files: &[ShelfFile], path: &TrackPath) -> Option<usize>
     ensures { result ≡ position_from (has_path path.now) 0 files.now }
 {
     files.iter().position(|file| file.is_at(path))
@@ -175,6 +176,8 @@ fn kind_in(files: &[ShelfFile], dump: &[u8]) -> DumpKind
         } else {
             DumpKind::NotThere
         }
+    } else if is_scp(dump) {
+        kind_of_scp(files, dump)
     } else if is_there {
         DumpKind::AFile
     } else {
@@ -489,7 +492,7 @@ impl<'a> Shelf for MemoryShelf<'a> {
     }
 
     fn holds(&self, dump: &[u8], track: TrackId) -> bool {
-        place_of(self.files, &TrackPath::of_dump(dump, track)).is_some()
+        has_track(self.files, dump, track)
     }
 
     fn kind_of(&self, dump: &[u8]) -> DumpKind {

@@ -1,6 +1,6 @@
 ghost use Rattle.std.specs.Prelude.{◌≡◌, ◌⊎◌, ◌<◌, [], ◌++◌, length, IfNone, IfSome};
 ghost use Rattle.std.specs.Str.{IsUtf8};
-ghost use Rattle.track_shelf.specs.Names.{folder_path, is_digit, is_ending, names_file, path_text};
+ghost use Rattle.track_shelf.specs.Names.{folder_path, is_digit, is_ending, is_scp, names_file, path_text};
 
 use crate::names::{put_ending, put_file_name};
 use arrayvec::ArrayString;
@@ -13,6 +13,9 @@ pub type Path = ArrayString<4096>;
 
 /// How many bytes the ending of a file's name has, `CC.H.raw`.
 pub(crate) const ENDING_SIZE: usize = 8;
+
+/// How the name of an SCP file ends.
+const SCP_ENDING: &[u8] = b".scp";
 
 /// The path of a track's file, which takes no memory of its own: a part of the dump's name,
 /// and what the track adds to it. Or any path, to which nothing is added.
@@ -46,19 +49,23 @@ impl<'a> TrackPath<'a> {
     }
 
     /// In a dump. A dump whose name ends like that of a track's file (two digits, a point, 0 or 1, `.raw`, and
-    /// something before them) has all its files beside this one, `PREFIXCC.H.raw`. Any other is a folder.
+    /// something before them) has all its files beside this one, `PREFIXCC.H.raw`. One whose name ends with `.scp` is
+    /// one file. Any other is a folder.
     #[tactic(auto, unfolding(crate::specs::Names::path_text))]
     pub fn of_dump(dump: &'a [u8], track: TrackId) -> TrackPath<'a>
         ensures { result ≡ path_text dump.now track }
     {
-        if !names_file(dump) {
-            return TrackPath::in_folder(dump, track);
-        }
-        let mut back = Line::new();
-        put_ending(&mut back, track);
-        TrackPath {
-            front: &dump[..dump.len() - ENDING_SIZE],
-            back,
+        if names_file(dump) {
+            let mut back = Line::new();
+            put_ending(&mut back, track);
+            TrackPath {
+                front: &dump[..dump.len() - ENDING_SIZE],
+                back,
+            }
+        } else if is_scp(dump) {
+            TrackPath::whole(dump)
+        } else {
+            TrackPath::in_folder(dump, track)
         }
     }
 
@@ -119,6 +126,18 @@ pub fn names_file(dump: &[u8]) -> bool
         return false;
     }
     is_ending(&dump[dump.len() - ENDING_SIZE..])
+}
+
+/// Whether a dump is an SCP file: whether its name ends with `.scp`, in letters of any case, with something before
+/// that.
+#[tactic(auto, unfolding(crate::specs::Names::is_scp))]
+pub fn is_scp(dump: &[u8]) -> bool
+    ensures { result ≡ is_scp dump.now }
+{
+    if dump.len() <= SCP_ENDING.len() {
+        return false;
+    }
+    dump[dump.len() - SCP_ENDING.len()..].eq_ignore_ascii_case(SCP_ENDING)
 }
 
 /// Whether it is `CC.H.raw` for a cylinder and a head.

@@ -1,9 +1,9 @@
-ghost use Rattle.std.specs.Prelude.{◌≡◌, ℕ, ◌<◌, ◌≤◌, List, None, Some, Option, length, is_err, is_some, option_map};
+ghost use Rattle.std.specs.Prelude.{◌≡◌, ℕ, ◌<◌, ◌≤◌, List, None, Some, Option, length, is_err, option_map};
 ghost use Rattle.std.specs.Prelude.{IfOk, IfSome, OnErr};
 ghost use Rattle.flux_base.specs.Outside.{IsCounted, Rose};
 ghost use Rattle.sector_images.specs.Places.{tracks};
 ghost use Rattle.track_shelf.specs.Files.{CountsFromNone, File, LeavesWanted, NamesMissing, NoneFailed, Opens, OpensAt};
-ghost use Rattle.track_shelf.specs.Files.{file_at, taken_over};
+ghost use Rattle.track_shelf.specs.Files.{has_track, taken_over};
 ghost use Rattle.track_shelf.specs.Handled.{CountsToo, Handled, handled_close, handled_open, has_failed};
 ghost use Rattle.track_shelf.specs.DumpKinds.{IsKindOf};
 ghost use Rattle.track_shelf.specs.Names.{path_text};
@@ -42,19 +42,19 @@ pub trait Shelf: Source {
         ensures cause { OnErr result (Rose (Self.faults self.old) (Self.faults self.new)) }
         ensures counted { IsCounted (is_err result) (Self.failed self.old) (Self.failed self.new) };
 
-    /// Whether the file of a track of a dump is there. Nothing fails: a file that cannot be looked at is
-    /// there, and fails as it is opened.
+    /// Whether a track of a dump is there: its file, or in an SCP file its entry. Nothing fails: in a file that cannot
+    /// be looked at the track is there, and fails as it is opened.
     fn holds(&self, dump: &[u8], track: TrackId) -> bool
-        ensures { (told : List File) → files self.now ≡ Some told
-            → result ≡ is_some (file_at told (path_text dump.now track)) };
+        ensures { (told : List File) → files self.now ≡ Some told → result ≡ has_track told dump.now track };
 
     /// What lies under a dump's name, of which none of the wanted files is there. Nothing fails: what
     /// cannot be looked at is `Unknown`.
     fn kind_of(&self, dump: &[u8]) -> DumpKind
         ensures { IsKindOf (files self.now) dump.now result };
 
-    /// Opens the file of a track of a dump, which is a folder, or is named by one of its files. None where there is no
-    /// such file. What is done with the file touches nothing of the shelf. No memory is taken.
+    /// Opens the file of a track of a dump, which is a folder, or is named by one of its files, or is an SCP file, in
+    /// which all tracks lie. None where there is no such file. What is done with the file touches nothing of the shelf.
+    /// No memory is taken.
     fn open_file(&mut self, dump: &[u8], track: TrackId) -> Result<Option<Self::File>, Failed>
         ensures opened { Opens Self.File.left (files self.old) (path_text dump.now track) result }
         ensures handles { handled self.new

@@ -1,6 +1,6 @@
 use Rattle.std.proofs.Common.{Bool, Some, None, sym, ap, ◌∙◌, if◌then◌else◌}
-use Rattle.track_shelf.specs.declared.kind.DumpKind.TheVariants.{NotThere, AFile, NoFiles, OtherTracks, Named, Unknown}
-use Rattle.track_shelf.proofs.DumpKinds.{files-of, first-of, kind-more}
+use Rattle.track_shelf.specs.declared.kind.DumpKind.TheVariants.{NotThere, AFile, NoFiles, OtherTracks, Named, RefusedScp, Unknown}
+use Rattle.track_shelf.proofs.DumpKinds.{files-of, first-of, first-scp, kind-more}
 use Rattle.track_shelf.proofs.kind.DumpKind.with_prefix.Goals as goal
 
 pub returns-in-NotThere : goal.returns-in-NotThere
@@ -22,6 +22,10 @@ pub returns-in-Named : goal.returns-in-Named
 returns-in-Named c name names prefix kind =
     kind-more (Named c.in-Named.first) None name names (sym c.in_default.is ∙ prefix) (sym c.in-Named.is ∙ kind)
 
+pub returns-in-RefusedScp : goal.returns-in-RefusedScp
+returns-in-RefusedScp c name names prefix kind =
+    kind-more (RefusedScp c.in-RefusedScp.fault) None name names (sym c.in_default.is ∙ prefix) (sym c.in-RefusedScp.is ∙ kind)
+
 pub returns-then-is_track : goal.returns-then-is_track
 returns-then-is_track c name names prefix kind =
     sym (files-of c.in-Some.prefix c.args.self (sym c.is_track.ensures ∙ c.if-is_track.true)) ∙ kind-more c.args.self (Some c.in-Some.prefix) name names (sym c.in-Some.is ∙ prefix) kind
@@ -38,4 +42,9 @@ returns-in-Named-self c name names prefix kind =
 pub returns-in-NotThere-self : goal.returns-in-NotThere-self
 returns-in-NotThere-self c name names prefix kind =
     sym (first-of c.in-Some.prefix c.args.self (sym c.is_track.ensures ∙ c.if-is_track.false) c.in-NotThere-self.is)
+    ∙ kind-more c.args.self (Some c.in-Some.prefix) name names (sym c.in-Some.is ∙ prefix) kind
+
+pub returns-in-RefusedScp-self : goal.returns-in-RefusedScp-self
+returns-in-RefusedScp-self c name names prefix kind =
+    sym (first-scp c.in-Some.prefix c.args.self (sym c.is_track.ensures ∙ c.if-is_track.false) c.in-RefusedScp-self.is)
     ∙ kind-more c.args.self (Some c.in-Some.prefix) name names (sym c.in-Some.is ∙ prefix) kind

@@ -6,7 +6,7 @@ use Rattle.track_shelf.proofs.path.TrackPath.of_dump.Goals as goal
 
 pub slice_bounds-result-count : goal.slice_bounds-result-count
 slice_bounds-result-count c =
-    let long = long-name c.args.dump.now (sym c.names_file.ensures ∙ c.if-not-names_file.false) in
+    let long = long-name c.args.dump.now (sym c.names_file.ensures ∙ c.if-names_file.true) in
     omega (arith, long)
 
 pub invariant_of-result : goal.invariant_of-result
