@@ -8,3 +8,7 @@ run_cells count = replicate (count - 1) false ++ true ∷ []
 -- a run of one to four cells: no recording has longer ones
 abbrev pub IsShortRun : ℕ → Type 0
 IsShortRun count = (1 ≤ count) × (count ≤ 4)
+
+-- a run of one to 32 cells: the longest that clock recovery counts
+abbrev pub IsRun : ℕ → Type 0
+IsRun count = (1 ≤ count) × (count ≤ 32)

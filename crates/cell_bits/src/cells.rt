@@ -6,6 +6,7 @@ mod pushes;
 mod reads;
 mod search;
 
+pub use self::pushes::longest_run;
 use flux_base::Memory;
 use std::alloc::Global;
 use std::marker::Model;

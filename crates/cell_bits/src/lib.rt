@@ -11,7 +11,7 @@ mod cells;
 mod laws;
 mod marks;
 
-pub use cells::Cells;
+pub use cells::{Cells, longest_run};
 pub use laws::marks_law;
 pub use marks::{
     FM_DATA_MARK, FM_DELETED_DATA_MARK, FM_ID_MARK, FM_INDEX_MARK, MFM_A1_MARK, MFM_C2_MARK,

@@ -3,12 +3,12 @@ use Rattle.std.proofs.Common.{◌≡◌, ℕ, zero, suc, ◌+◌, ◌-◌, ◌*�
 use Rattle.std.specs.List.{sum_by}
 use Rattle.std.specs.List.Sorted.{IsNonDecreasing}
 use Rattle.std.proofs.lemmas.Bool.{cases_lt}
-use Rattle.std.proofs.lemmas.List.{set-get_or, length-drop, get_or-drop}
+use Rattle.std.proofs.lemmas.List.{set-get_or, length-drop, length-take, get_or-drop, get_or-take}
 use Rattle.std.proofs.lemmas.List.Sums.{sum_by-cons, sum_by_more}
 use Rattle.std.proofs.Math.Nat.{div-eq_of_lt-le, div-le_of_le-mul, le-div_iff_mul-le, mul-le-mul_left, mul-le-mul_right}
 use Rattle.circular_buffer.specs.Buffer.{buffer}
 use Rattle.cell_bits.specs.State.{CellsState, room}
-use Rattle.cell_bits.specs.Run.{run_cells, IsShortRun}
+use Rattle.cell_bits.specs.Run.{run_cells, IsRun}
 use Rattle.phase_loop.specs.Start.{LONGEST_PERIOD, in_band}
 use Rattle.phase_loop.specs.inside.Window.{WIDEST, IsShort, IsWindow, fine_total, count_total}
 use Rattle.phase_loop.specs.State.{LoopState}
@@ -37,39 +37,25 @@ pub record IsOff (fine later n reference off : ℕ) : Type 0 where
 -- the count is the guess, and the next place is again within reach
 pub record IsCounted (place period later reach n : ℕ) : Type 0 where
   pub count : n ≡ max 1 ((2 * (later - place) + period) / (2 * period))
-  pub near : 2 * (later - place) < 9 * period
+  pub near : 2 * (later - place) < 65 * period
   pub ahead : (place + n * period + later) / 2 ≤ later + reach
   pub behind : later ≤ (place + n * period + later) / 2 + reach
 
-pub counted : (place period fine later reference off drift reach n : ℕ) → IsHeld place period fine reference drift reach
-    → IsOff fine later n reference off → off + 4 * drift + 1 ≤ reach → 4 * reach ≤ period → 1 ≤ n → n ≤ 4
+pub counted : (place period fine later reference off longest drift reach n : ℕ) → IsHeld place period fine reference drift reach
+    → IsOff fine later n reference off → off + longest * drift + 1 ≤ reach → 4 * reach ≤ period → 1 ≤ n → n ≤ longest → n ≤ 32
     → IsCounted place period later reach n
-counted place period fine later reference off drift reach zero held is_off sum wide some few = absurd (omega arith)
-counted place period fine later reference off drift reach (suc zero) held is_off sum wide some few = record {
-  count = sym (is_count (later - place) period 1 some (omega (arith, held.ahead, held.behind, held.slow, held.fast, is_off.long, is_off.short)) (omega (arith, held.ahead, held.behind, held.slow, held.fast, is_off.long, is_off.short)));
-  near = omega (arith, held.ahead, held.behind, held.slow, held.fast, is_off.long, is_off.short);
-  ahead = omega (arith, held.ahead, held.behind, held.slow, held.fast, is_off.long, is_off.short);
-  behind = omega (arith, held.ahead, held.behind, held.slow, held.fast, is_off.long, is_off.short);
-}
-counted place period fine later reference off drift reach (suc (suc zero)) held is_off sum wide some few = record {
-  count = sym (is_count (later - place) period 2 some (omega (arith, held.ahead, held.behind, held.slow, held.fast, is_off.long, is_off.short)) (omega (arith, held.ahead, held.behind, held.slow, held.fast, is_off.long, is_off.short)));
-  near = omega (arith, held.ahead, held.behind, held.slow, held.fast, is_off.long, is_off.short);
-  ahead = omega (arith, held.ahead, held.behind, held.slow, held.fast, is_off.long, is_off.short);
-  behind = omega (arith, held.ahead, held.behind, held.slow, held.fast, is_off.long, is_off.short);
-}
-counted place period fine later reference off drift reach (suc (suc (suc zero))) held is_off sum wide some few = record {
-  count = sym (is_count (later - place) period 3 some (omega (arith, held.ahead, held.behind, held.slow, held.fast, is_off.long, is_off.short)) (omega (arith, held.ahead, held.behind, held.slow, held.fast, is_off.long, is_off.short)));
-  near = omega (arith, held.ahead, held.behind, held.slow, held.fast, is_off.long, is_off.short);
-  ahead = omega (arith, held.ahead, held.behind, held.slow, held.fast, is_off.long, is_off.short);
-  behind = omega (arith, held.ahead, held.behind, held.slow, held.fast, is_off.long, is_off.short);
-}
-counted place period fine later reference off drift reach (suc (suc (suc (suc zero)))) held is_off sum wide some few = record {
-  count = sym (is_count (later - place) period 4 some (omega (arith, held.ahead, held.behind, held.slow, held.fast, is_off.long, is_off.short)) (omega (arith, held.ahead, held.behind, held.slow, held.fast, is_off.long, is_off.short)));
-  near = omega (arith, held.ahead, held.behind, held.slow, held.fast, is_off.long, is_off.short);
-  ahead = omega (arith, held.ahead, held.behind, held.slow, held.fast, is_off.long, is_off.short);
-  behind = omega (arith, held.ahead, held.behind, held.slow, held.fast, is_off.long, is_off.short);
-}
-counted place period fine later reference off drift reach (suc (suc (suc (suc (suc more))))) held is_off sum wide some few = absurd (omega arith)
+counted place period fine later reference off longest drift reach n held is_off sum wide some few most =
+    let share : n * drift ≤ longest * drift = mul-le-mul_right drift few in
+    let slow : n * period ≤ n * (reference + drift) = mul-le-mul_left n held.slow in
+    let fast : n * reference ≤ n * (period + drift) = mul-le-mul_left n held.fast in
+    let all : n * period ≤ 32 * period = mul-le-mul_right period most in
+    let least : 1 * period ≤ n * period = mul-le-mul_right period some in
+    record {
+      count = sym (is_count (later - place) period n some (omega (arith, held.ahead, held.behind, share, slow, fast, is_off.long, is_off.short, sum, wide)) (omega (arith, held.ahead, held.behind, share, slow, fast, least, is_off.long, is_off.short, sum, wide)));
+      near = omega (arith, held.ahead, held.behind, share, slow, fast, all, is_off.long, is_off.short, sum, wide);
+      ahead = omega (arith, held.ahead, held.behind, share, slow, fast, is_off.long, is_off.short, sum, wide);
+      behind = omega (arith, held.ahead, held.behind, share, slow, fast, is_off.long, is_off.short, sum, wide);
+    }
 
 -- the mean of 64 cells or more is as near to the reference period as their whole length is to so many of it, over 64
 pub record IsMean (mean reference drift : ℕ) : Type 0 where
@@ -246,21 +232,34 @@ record IsFollowed (times : List ℕ) (last taken : ℕ) (state : LoopState) (sta
 abbrev drift_in : Band → (reference drift : ℕ) → ℕ
 drift_in band reference drift = min drift (max (reference - band.lowest) (band.highest - reference))
 
-follow_more : (times : List ℕ) (last most : ℕ) (state : LoopState) (stand : Stand) (counts : List ℕ) (off drift reach k : ℕ)
-    → IsNonDecreasing times → last + most < length times → most ≤ 2048 → length counts ≡ 2112 → AreGuessed most counts → IsBand state.band
+-- no guess has more cells than this
+abbrev pub AreAtMost : (most longest : ℕ) → List ℕ → Type 0
+AreAtMost most longest counts = (k : ℕ) → k < most → slice_index counts (64 + k) ≤ longest
+
+pub at_most_of : (most : ℕ) (counts : List ℕ) (longest : ℕ) → 64 + most ≤ length counts
+    → All (λ count. count ≤ longest) (take (64 + most - 64) (drop 64 counts)) → AreAtMost most longest counts
+at_most_of most counts longest room_for bound k early =
+    let part : List ℕ = take (64 + most - 64) (drop 64 counts) in
+    let is : get_or part k 0 ≡ get_or counts (64 + k) 0 =
+    get_or-take (64 + most - 64) (drop 64 counts) k 0 (omega (arith, early)) ∙ get_or-drop 64 counts k 0 in
+    subst (λ (n : ℕ). n ≤ longest) is
+    (bound k 0 (omega (arith, early, room_for, length-take (64 + most - 64) (drop 64 counts), length-drop 64 counts)))
+
+follow_more : (times : List ℕ) (last most : ℕ) (state : LoopState) (stand : Stand) (counts : List ℕ) (off longest drift reach k : ℕ)
+    → IsNonDecreasing times → last + most < length times → most ≤ 2048 → length counts ≡ 2112 → AreGuessed most counts → AreAtMost most longest counts → IsBand state.band
     → Evidence times last most counts state.period off drift
-    → IsReach state.band state.period state.place (fine_at times last) off drift reach
+    → IsReach state.band state.period state.place (fine_at times last) off longest drift reach
     → k < most → IsFollowed times last k state stand counts (drift_in state.band state.period drift) reach
     → IsFollowed times last (k + 1) state (stand_after times last state.band counts k stand) counts (drift_in state.band state.period drift) reach
-follow_more times last most state stand counts off drift reach k rising inside few whole guessed band evidence is_reach early before =
+follow_more times last most state stand counts off longest drift reach k rising inside few whole guessed at_most band evidence is_reach early before =
     let here : ℕ = last + k in
     let n : ℕ = slice_index counts (64 + k) in
     let oldest : ℕ = slice_index counts k in
     let used : ℕ = drift_in state.band state.period drift in
     let room_for : 64 + k < length counts = omega (arith, whole, early, few) in
-    let short : IsShortRun n = guess_short most counts k guessed early room_for in
+    let short : IsRun n = guess_short most counts k guessed early room_for in
     let within : here + 1 < length times = omega (arith, inside, early) in
-    let step = counted stand.place stand.period (fine_at times here) (fine_at times (here + 1)) state.period off used reach n before.held (evidence.offs k early) is_reach.next before.wide short.0 short.1 in
+    let step = counted stand.place stand.period (fine_at times here) (fine_at times (here + 1)) state.period off longest used reach n before.held (evidence.offs k early) is_reach.next before.wide short.0 (at_most k early) short.1 in
     let next = stretch_next _ _ _ _ _ counts k n _ _ rising (before.runs no_cells (omega arith)) within room_for step.near short.0 short.1 in
     let same : set counts (64 + k) n ≡ counts = set-get_or counts (64 + k) 0 in
     let number : here + 1 ≡ last + (k + 1) = omega arith in
@@ -292,14 +291,14 @@ follow_more times last most state stand counts off drift reach k rising inside f
     }
 
 -- the stretch up to each of its transitions
-follow : (times : List ℕ) (last most : ℕ) (state : LoopState) (counts : List ℕ) (off drift reach : ℕ)
-    → IsNonDecreasing times → last + most < length times → most ≤ 2048 → length counts ≡ 2112 → AreGuessed most counts → IsBand state.band
+follow : (times : List ℕ) (last most : ℕ) (state : LoopState) (counts : List ℕ) (off longest drift reach : ℕ)
+    → IsNonDecreasing times → last + most < length times → most ≤ 2048 → length counts ≡ 2112 → AreGuessed most counts → AreAtMost most longest counts → IsBand state.band
     → TakesRuns times last 0 state (stand_of state) counts
     → Evidence times last most counts state.period off drift
-    → IsReach state.band state.period state.place (fine_at times last) off drift reach
+    → IsReach state.band state.period state.place (fine_at times last) off longest drift reach
     → (k : ℕ) → k ≤ most
     → IsFollowed times last k state (stand_at times last state counts k) counts (drift_in state.band state.period drift) reach
-follow times last most state counts off drift reach rising inside few whole guessed band begins evidence is_reach zero within =
+follow times last most state counts off longest drift reach rising inside few whole guessed at_most band begins evidence is_reach zero within =
     let here : last ≡ last + 0 = omega arith in
     let Q : ℕ → Type 0 = λ m. IsHeld state.place state.period (fine_at times m) state.period (drift_in state.band state.period drift) reach in
     record {
@@ -307,21 +306,21 @@ follow times last most state counts off drift reach rising inside few whole gues
       held = subst Q here (record { ahead = is_reach.ahead; behind = is_reach.behind; slow = omega arith; fast = omega arith });
       wide = omega (arith, is_reach.near, is_reach.low);
     }
-follow times last most state counts off drift reach rising inside few whole guessed band begins evidence is_reach (suc k) within =
+follow times last most state counts off longest drift reach rising inside few whole guessed at_most band begins evidence is_reach (suc k) within =
     let one : k + 1 ≡ suc k = omega arith in
-    let before = follow times last most state counts off drift reach rising inside few whole guessed band begins evidence is_reach k (omega (arith, within)) in
+    let before = follow times last most state counts off longest drift reach rising inside few whole guessed at_most band begins evidence is_reach k (omega (arith, within)) in
     let P : ℕ → Type 0 = λ m. IsFollowed times last m state (stand_at times last state counts (suc k)) counts (drift_in state.band state.period drift) reach in
-    subst P one (follow_more times last most state (stand_at times last state counts k) counts off drift reach k rising inside few whole guessed band evidence is_reach (omega (arith, within)) before)
+    subst P one (follow_more times last most state (stand_at times last state counts k) counts off longest drift reach k rising inside few whole guessed at_most band evidence is_reach (omega (arith, within)) before)
 
 -- the guesses are certain
-pub certain : (times : List ℕ) (last most : ℕ) (state : LoopState) (counts : List ℕ) (off drift reach : ℕ)
-    → IsNonDecreasing times → last + most < length times → most ≤ 2048 → length counts ≡ 2112 → AreGuessed most counts → IsBand state.band
+pub certain : (times : List ℕ) (last most : ℕ) (state : LoopState) (counts : List ℕ) (off longest drift reach : ℕ)
+    → IsNonDecreasing times → last + most < length times → most ≤ 2048 → length counts ≡ 2112 → AreGuessed most counts → AreAtMost most longest counts → IsBand state.band
     → TakesRuns times last 0 state (stand_of state) counts
     → Evidence times last most counts state.period off drift
-    → IsReach state.band state.period state.place (fine_at times last) off drift reach
+    → IsReach state.band state.period state.place (fine_at times last) off longest drift reach
     → AreCertain times last most state counts reach
-certain times last most state counts off drift reach rising inside few whole guessed band begins evidence is_reach taken within =
-    let so_far = follow times last most state counts off drift reach rising inside few whole guessed band begins evidence is_reach taken within in
+certain times last most state counts off longest drift reach rising inside few whole guessed at_most band begins evidence is_reach taken within =
+    let so_far = follow times last most state counts off longest drift reach rising inside few whole guessed at_most band begins evidence is_reach taken within in
     record { runs = so_far.runs; ahead = so_far.held.ahead; behind = so_far.held.behind }
 
 -- the evidence, from the remainders of all intervals and their drift

@@ -9,7 +9,7 @@ use Rattle.std.proofs.lemmas.List.Sums.{sum_by-cons}
 use Rattle.std.proofs.Math.Nat.{div-mul-le_self, mul-le-mul_right}
 use Rattle.circular_buffer.specs.Buffer.{buffer, keep_last}
 use Rattle.cell_bits.specs.State.{CellsState, room}
-use Rattle.cell_bits.specs.Run.{run_cells, IsShortRun}
+use Rattle.cell_bits.specs.Run.{run_cells, IsRun}
 use Rattle.phase_loop.specs.Start.{IsStart, LONGEST_PERIOD, SHORTEST_PERIOD, in_band}
 use Rattle.phase_loop.specs.inside.Window.{WIDEST, IsShort, IsWindow, fine_total, count_total}
 use Rattle.phase_loop.specs.State.{LoopState}
@@ -131,7 +131,7 @@ pub record Next (times : List ℕ) (next : ℕ) (stand : Stand) (counts : List �
 pub stretch_next : (times : List ℕ) (last next : ℕ) (state : LoopState) (stand : Stand) (counts : List ℕ) (taken n : ℕ) (cells now : CellsState)
     → IsNonDecreasing times → IsStretch times last next state stand (drop taken (take (64 + taken) counts)) cells now
     → next + 1 < length times → 64 + taken < length counts
-    → 2 * (1024 * slice_index times (next + 1) - stand.place) < 9 * stand.period → 1 ≤ n → n ≤ 4
+    → 2 * (1024 * slice_index times (next + 1) - stand.place) < 65 * stand.period → 1 ≤ n → n ≤ 32
     → Next times next stand counts taken n
 stretch_next times last next state stand counts taken n cells now rising s inside room_for near some few =
     let shift = shifted counts taken n room_for in
@@ -221,7 +221,7 @@ pub stretch_more : (times : List ℕ) (last next : ℕ) (state : LoopState) (sta
     → IsStretch times last next state stand (oldest ∷ rest) cells now → next + 1 < length times
     → Exchanged times next totals.fine totals.count oldest n rest
     → totals.fine ≡ 1024 * slice_index times (next + 1) - 1024 * slice_index times (next + 1 - 64)
-    → n ≡ max 1 ((2 * (1024 * slice_index times (next + 1) - stand.place) + stand.period) / (2 * stand.period)) → n ≤ 4
+    → n ≡ max 1 ((2 * (1024 * slice_index times (next + 1) - stand.place) + stand.period) / (2 * stand.period)) → n ≤ 32
     → longer.cells ≡ now.cells ++ run_cells n → room now ≤ room longer
     → IsStretch times last (next + 1) state (stand_next state.band stand (1024 * slice_index times (next + 1)) n totals.count (totals.fine / totals.count)) (rest ++ n ∷ []) cells longer
 stretch_more times last next state stand totals oldest n rest cells now longer rising band s inside exchange total_is count few longer_are room_kept =
@@ -380,13 +380,13 @@ runs_more cells counts taken n within =
     ∙ ap (λ (l : List Bool). cells.cells ++ l) (flat_map-append run_cells (take taken rest) (n ∷ []) ∙ ap (λ (l : List Bool). before ++ l) (append-nil (run_cells n)))
     ∙ sym (append_assoc cells.cells before (run_cells n))
 
--- a guess is short
+-- a guess is a run
 pub guess_short : (most : ℕ) (counts : List ℕ) (taken : ℕ) → AreGuessed most counts → taken < most → 64 + taken < length counts
-    → IsShortRun (slice_index counts (64 + taken))
+    → IsRun (slice_index counts (64 + taken))
 guess_short most counts taken guessed early within =
     let is : get_or (take most (drop 64 counts)) taken 0 ≡ get_or counts (64 + taken) 0 =
     get_or-take most (drop 64 counts) taken 0 early ∙ get_or-drop 64 counts taken 0 in
-    subst IsShortRun is (guessed taken 0 (omega (arith, early, within, length-take most (drop 64 counts), length-drop 64 counts)))
+    subst IsRun is (guessed taken 0 (omega (arith, early, within, length-take most (drop 64 counts), length-drop 64 counts)))
 
 take_set : (n i y : ℕ) (xs : List ℕ) → take n (set xs i y) ≡ set (take n xs) i y
 take_set zero i y xs = refl
@@ -394,17 +394,17 @@ take_set (suc n) i y [] = refl
 take_set (suc n) zero y (x ∷ xs) = refl
 take_set (suc n) (suc i) y (x ∷ xs) = ap (λ (l : List ℕ). x ∷ l) (take_set n i y xs)
 
--- a count that is put right is short
-pub guess_right : (most : ℕ) (counts : List ℕ) (taken n : ℕ) → AreGuessed most counts → IsShortRun n
+-- a count that is put right is one
+pub guess_right : (most : ℕ) (counts : List ℕ) (taken n : ℕ) → AreGuessed most counts → IsRun n
     → AreGuessed most (set counts (64 + taken) n)
 guess_right most counts taken n guessed short =
     let is : take most (drop 64 (set counts (64 + taken) n)) ≡ set (take most (drop 64 counts)) taken n =
     ap (λ (l : List ℕ). take most l) (drop-set-add 64 counts taken n) ∙ take_set most taken n (drop 64 counts) in
-    subst (λ (l : List ℕ). All IsShortRun l) (sym is) (All-set IsShortRun (take most (drop 64 counts)) taken n short guessed)
+    subst (λ (l : List ℕ). All IsRun l) (sym is) (All-set IsRun (take most (drop 64 counts)) taken n short guessed)
 
--- those that were taken are short
+-- those that were taken are
 pub taken_short : (most : ℕ) (counts : List ℕ) (taken : ℕ) → AreGuessed most counts → taken ≤ most
-    → All IsShortRun (take taken (drop 64 counts))
+    → All IsRun (take taken (drop 64 counts))
 taken_short most counts taken guessed within =
-    subst (λ (l : List ℕ). All IsShortRun l) (take-take taken most (drop 64 counts) within)
-    (All-take IsShortRun taken (take most (drop 64 counts)) guessed)
+    subst (λ (l : List ℕ). All IsRun l) (take-take taken most (drop 64 counts) within)
+    (All-take IsRun taken (take most (drop 64 counts)) guessed)

@@ -44,12 +44,8 @@ impl Band {
     {
         let lowest = u64::from(self.lowest);
         let highest = u64::from(self.highest);
-        // One comparison, since the two sides are met in no order: a period below the band
-        // wraps to more than any width.
-        if highest.saturating_sub(lowest) < period.wrapping_sub(lowest) {
-            return end_of_band(lowest, highest, period);
-        }
-        period
+        // By no branch: a loop by a wrong clock is at its band's end as often as within.
+        period.min(highest).max(lowest)
     }
 }
 
@@ -90,14 +86,4 @@ impl LoopStart {
             },
         }
     }
-}
-
-/// The end of the band that is nearer to a period outside it. A call, so that the usual period inside the
-/// band does not wait for a comparison.
-#[cold]
-#[inline(never)]
-fn end_of_band(lowest: u64, highest: u64, period: u64) -> u64
-    ensures { result ≡ max lowest (min highest period) }
-{
-    period.min(highest).max(lowest)
 }

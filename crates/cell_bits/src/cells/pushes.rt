@@ -1,9 +1,9 @@
-ghost use Rattle.std.specs.Prelude.{◌≡◌, ℕ, ◌+◌, ◌-◌, ◌*◌, ◌^◌, ◌<◌, ◌≤◌, [], ◌∷◌, ◌++◌, All, length, take, flat_map};
+ghost use Rattle.std.specs.Prelude.{◌≡◌, ℕ, Bool, List, ◌+◌, ◌-◌, ◌*◌, ◌^◌, ◌<◌, ◌≤◌, [], ◌∷◌, ◌++◌, All, length, flat_map};
 ghost use Rattle.std.specs.Prelude.{OnOk, OnErr, IsOk};
 ghost use Rattle.cell_bits.specs.State.{room};
 ghost use Rattle.cell_bits.specs.Word.{word_cells};
 ghost use Rattle.cell_bits.specs.inside.Spread.{spread_of};
-ghost use Rattle.cell_bits.specs.Run.{run_cells, IsShortRun};
+ghost use Rattle.cell_bits.specs.Run.{run_cells, IsRun, IsShortRun};
 ghost use Rattle.cell_bits.specs.Bytes.{fm, mfm, last_cell};
 
 use super::{Cells, MOST_WORDS};
@@ -45,6 +45,12 @@ const ONES: u32 = (1 << 24) + (1 << 16) + (1 << 8) + 1;
 /// How many short runs are appended together: at most 32 cells, as many as `append` takes.
 const GROUP: usize = 8;
 
+/// The most cells of a short run.
+const LONGEST_SHORT: u8 = 4;
+
+/// How many runs are looked at together, whether all are short.
+const BLOCK: usize = 256;
+
 impl Cells {
     /// Appends one cell. Memory leaves the list as it was.
     pub fn push_cell(&mut self, cell: bool) -> Result<(), Memory>
@@ -69,20 +75,22 @@ impl Cells {
         self.append(1, count as u32)
     }
 
-    /// Appends the runs of several counts, each of 1 to 4, as `push_run` appends one, but eight runs at a time. Memory
-    /// leaves the list as it was.
-    pub fn push_short_runs(&mut self, counts: &[u8]) -> Result<(), Memory>
-        requires short { All IsShortRun counts.now }
+    /// Appends the runs of several counts, each of 1 to 32, as `push_run` appends one, but eight at a time where those
+    /// about them are of 1 to 4. Memory leaves the list as it was.
+    pub fn push_runs(&mut self, counts: &[u8]) -> Result<(), Memory>
+        requires runs { All IsRun counts.now }
         ensures cells { OnOk result (self.new.cells ≡ self.old.cells ++ flat_map run_cells counts.now) }
         ensures unchanged { OnErr result (self.new.cells ≡ self.old.cells) }
         ensures room { room self.old ≤ room self.new }
-        ensures few { length (flat_map run_cells counts.now) ≤ 4 * length counts.now }
+        ensures most { length (flat_map run_cells counts.now) ≤ 32 * length counts.now }
+        ensures few { All IsShortRun counts.now
+            → length (flat_map run_cells counts.now) ≤ 4 * length counts.now }
         ensures succeeds { length (flat_map run_cells counts.now) ≤ self.old.spare → IsOk result }
     {
         let words = self.words.len();
         let last = self.last;
         let filled = self.filled;
-        let pushed = self.push_groups(counts);
+        let pushed = self.push_blocks(counts);
         if pushed.is_err() {
             self.words.truncate(words);
             self.last = last;
@@ -91,12 +99,40 @@ impl Cells {
         pushed
     }
 
-    /// What `push_short_runs` appends. Memory leaves the runs of some of the first counts at the list's end.
+    /// What `push_runs` appends. Memory leaves some cells at the list's end.
+    fn push_blocks(&mut self, counts: &[u8]) -> Result<(), Memory>
+        requires runs { All IsRun counts.now }
+        ensures cells { OnOk result (self.new.cells ≡ self.old.cells ++ flat_map run_cells counts.now) }
+        ensures part { OnErr result ((more : List Bool) × (self.new.cells ≡ self.old.cells ++ more)) }
+        ensures room { room self.old ≤ room self.new }
+        ensures succeeds { length (flat_map run_cells counts.now) ≤ self.old.spare → IsOk result }
+    {
+        let blocks = counts.len() / BLOCK;
+        for block in 0..blocks {
+            self.push_block(&counts[BLOCK * block..BLOCK * block + BLOCK])?;
+        }
+        self.push_block(&counts[BLOCK * blocks..])
+    }
+
+    /// The same, where all runs are looked at together, whether they are short.
+    fn push_block(&mut self, counts: &[u8]) -> Result<(), Memory>
+        requires runs { All IsRun counts.now }
+        ensures cells { OnOk result (self.new.cells ≡ self.old.cells ++ flat_map run_cells counts.now) }
+        ensures part { OnErr result ((more : List Bool) × (self.new.cells ≡ self.old.cells ++ more)) }
+        ensures room { room self.old ≤ room self.new }
+        ensures succeeds { length (flat_map run_cells counts.now) ≤ self.old.spare → IsOk result }
+    {
+        if longest_run(counts) > LONGEST_SHORT {
+            return self.push_each(counts);
+        }
+        self.push_groups(counts)
+    }
+
+    /// The same of short runs, eight at a time.
     fn push_groups(&mut self, counts: &[u8]) -> Result<(), Memory>
         requires short { All IsShortRun counts.now }
         ensures cells { OnOk result (self.new.cells ≡ self.old.cells ++ flat_map run_cells counts.now) }
-        ensures part { OnErr result
-            ((k : ℕ) × (self.new.cells ≡ self.old.cells ++ flat_map run_cells (take k counts.now))) }
+        ensures part { OnErr result ((more : List Bool) × (self.new.cells ≡ self.old.cells ++ more)) }
         ensures room { room self.old ≤ room self.new }
         ensures succeeds { length (flat_map run_cells counts.now) ≤ self.old.spare → IsOk result }
     {
@@ -105,7 +141,19 @@ impl Cells {
             let (bits, count) = joined_runs(&counts[GROUP * group..GROUP * group + GROUP]);
             self.append(bits, count)?;
         }
-        for place in GROUP * groups..counts.len() {
+        self.push_each(&counts[GROUP * groups..])
+    }
+
+    /// The same, one run after another. A call, so that short runs have the registers for themselves.
+    #[inline(never)]
+    fn push_each(&mut self, counts: &[u8]) -> Result<(), Memory>
+        requires runs { All IsRun counts.now }
+        ensures cells { OnOk result (self.new.cells ≡ self.old.cells ++ flat_map run_cells counts.now) }
+        ensures part { OnErr result ((more : List Bool) × (self.new.cells ≡ self.old.cells ++ more)) }
+        ensures room { room self.old ≤ room self.new }
+        ensures succeeds { length (flat_map run_cells counts.now) ≤ self.old.spare → IsOk result }
+    {
+        for place in 0..counts.len() {
             self.push_run(counts[place])?;
         }
         Ok(())
@@ -180,6 +228,18 @@ impl Cells {
         self.filled = over;
         Ok(())
     }
+}
+
+/// The greatest of some counts, or 0 of none: the least number that none of them is above.
+pub fn longest_run(counts: &[u8]) -> u8
+    ensures bound { All (λ count. count ≤ result) counts.now }
+    ensures least { (most : ℕ) → All (λ count. count ≤ most) counts.now → result ≤ most }
+{
+    let mut longest = 0;
+    for place in 0..counts.len() {
+        longest = counts[place].max(longest);
+    }
+    longest
 }
 
 /// The runs of eight counts, each of 1 to 4: their cells as the low bits of a number, high bit first, and how many they

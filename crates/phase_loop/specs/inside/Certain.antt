@@ -114,13 +114,14 @@ AreCertain times last most state counts reach =
 
 -- What is known of a stretch, if its places keep within this reach: its first place does, the first
 -- period is in the band, and an interval that is off by so much, with a period that is off by so
--- much for each of four cells, is again within reach, and far from the next count.
-pub record IsReach (band : Band) (period place fine off drift reach : ℕ) : Type 0 where
+-- much for each of the most cells, is again within reach, and far from the next count.
+pub record IsReach (band : Band) (period place fine off cells drift reach : ℕ) : Type 0 where
   pub shortest : SHORTEST_PERIOD ≤ band.lowest
   pub longest : band.highest ≤ LONGEST_PERIOD
   pub low : band.lowest ≤ period
   pub high : period ≤ band.highest
   pub ahead : place ≤ fine + reach
   pub behind : fine ≤ place + reach
-  pub next : off + 4 * min drift (max (period - band.lowest) (band.highest - period)) + 1 ≤ reach
+  pub next : off + cells * min drift (max (period - band.lowest) (band.highest - period)) + 1
+      ≤ reach
   pub near : 4 * reach + min drift (max (period - band.lowest) (band.highest - period)) ≤ period

@@ -4,7 +4,7 @@ use Rattle.std.specs.Prelude.{◌≡◌, ℕ, ◌+◌, ◌-◌, ◌*◌, ◌/◌
 use Rattle.std.specs.Prelude.{flat_map, length, take, drop, slice_index}
 use Rattle.circular_buffer.specs.Buffer.{buffer}
 use Rattle.cell_bits.specs.State.{CellsState, room}
-use Rattle.cell_bits.specs.Run.{run_cells, IsShortRun}
+use Rattle.cell_bits.specs.Run.{run_cells, IsRun}
 use Rattle.phase_loop.specs.Start.{FINE_PER_TICK, INTERVALS, LONGEST, SHORTEST_PERIOD}
 use Rattle.phase_loop.specs.Start.{LONGEST_PERIOD, in_band}
 use Rattle.phase_loop.specs.inside.Window.{IsWindow}
@@ -64,9 +64,9 @@ Carries times last next old new cells longer =
     (start : LoopStart) (before : CellsState) → IsAppended start times last old before cells
     → IsAppended start times next new before longer
 
--- after the counts of the window stand those of so many transitions, all short
+-- after the counts of the window stand those of so many transitions, all of 1 to 32
 abbrev pub AreGuessed : (most : ℕ) → List ℕ → Type 0
-AreGuessed most counts = All IsShortRun (take most (drop INTERVALS counts))
+AreGuessed most counts = All IsRun (take most (drop INTERVALS counts))
 
 -- the cells with some runs after them
 abbrev pub with_runs : CellsState → List ℕ → CellsState

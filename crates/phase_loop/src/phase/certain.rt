@@ -16,6 +16,7 @@ use super::stretch::Stand;
 use super::{LONGEST, Loop};
 use crate::start::{Band, FINE_PER_TICK};
 use crate::window::{INTERVALS, STRETCH};
+use cell_bits::longest_run;
 
 /// The intervals of the window and those of a stretch.
 const SPAN: usize = INTERVALS + STRETCH;
@@ -110,13 +111,22 @@ impl Loop {
             return None;
         }
         let fine = FINE_PER_TICK * times[last];
-        let drift = self.drift(stand, fine, off, ticks, most);
-        self.reach_by(stand, fine, off, drift)
+        let longest = longest_run(&counts[INTERVALS..span]);
+        let drift = self.drift(stand, fine, off, longest, ticks, most);
+        self.reach_by(stand, fine, off, longest, drift)
     }
 
     /// How far the mean cell of each window of a stretch is at most from the period of its begin, by the remainders of
     /// the intervals. No mean is further off than the intervals are. Where that is near enough no sums are looked at.
-    fn drift(&self, stand: Stand, fine: u64, off: u32, remainders: &[u32; SPAN], most: usize) -> u32
+    fn drift(
+        &self,
+        stand: Stand,
+        fine: u64,
+        off: u32,
+        longest: u8,
+        remainders: &[u32; SPAN],
+        most: usize,
+    ) -> u32
         requires fine { fine ≤ 2 ^ 49 }
         requires place { stand.place ≤ 2 ^ 50 }
         requires period { stand.period ≤ 163840 }
@@ -126,18 +136,18 @@ impl Loop {
             → IsAbout (slice_index remainders.now place) (32 * stand.period) off }
         ensures { IsDrift remainders.now most stand.period result }
     {
-        if self.reach_by(stand, fine, off, off).is_some() {
+        if self.reach_by(stand, fine, off, longest, off).is_some() {
             return off;
         }
         drift_by_sums(remainders, most, stand.period as u32)
     }
 
-    /// How far the place is from the times at most, where each interval is off by so much at most and each mean by so
-    /// much, if no count but the nearest can then be the rule's.
-    fn reach_by(&self, stand: Stand, fine: u64, off: u32, drift: u32) -> Option<u64>
+    /// How far the place is from the times at most, where each interval has so many cells at most and is off by so much,
+    /// and each mean by so much, if no count but the nearest can then be the rule's.
+    fn reach_by(&self, stand: Stand, fine: u64, off: u32, longest: u8, drift: u32) -> Option<u64>
         requires fine { fine ≤ 2 ^ 49 }
         requires place { stand.place ≤ 2 ^ 50 }
-        ensures reach { IfSome result (IsReach self.now.band stand.period stand.place fine off drift) }
+        ensures reach { IfSome result (IsReach self.now.band stand.period stand.place fine off longest drift) }
     {
         let lowest = u64::from(self.start.band.lowest);
         let highest = u64::from(self.start.band.highest);
@@ -147,7 +157,9 @@ impl Loop {
         // A period in the band is no further off than the ends of the band.
         let most = (stand.period - lowest).max(highest - stand.period);
         let drift = u64::from(drift).min(most);
-        let reach = (u64::from(off) + 4 * drift + 1).max(fine.abs_diff(stand.place));
+        let reach = (u64::from(off) + u64::from(longest) * drift + 1).max(fine.abs_diff(
+            stand.place,
+        ));
         if 4 * reach + drift > stand.period {
             return None;
         }

@@ -1,7 +1,8 @@
 //! Guesses of counts, before the loop takes the transitions.
 ghost use Rattle.std.specs.Prelude.{◌≡◌, ◌≤◌, length, All};
-ghost use Rattle.cell_bits.specs.Run.{IsShortRun};
+ghost use Rattle.cell_bits.specs.Run.{IsRun};
 
+use super::LONGEST;
 use crate::start::FINE_PER_TICK;
 
 /// A whole cell, in parts.
@@ -31,18 +32,18 @@ impl Guess {
     pub(crate) fn put_counts(self, ticks: &[u32], counts: &mut [u8])
         requires ticks { length ticks.now ≡ length counts.old }
         ensures length { length counts.new ≡ length counts.old }
-        ensures short { All IsShortRun counts.new }
+        ensures short { All IsRun counts.new }
     {
         for place in 0..counts.len() {
             counts[place] = self.count(ticks[place]);
         }
     }
 
-    /// A count of cells from one to four, since no recording has more from one transition to the next.
+    /// A count of cells from one to 32. A longer interval ends the stretch.
     fn count(self, ticks: u32) -> u8
-        ensures { IsShortRun result }
+        ensures { IsRun result }
     {
         let parts = ticks.wrapping_mul(self.part).wrapping_add(WHOLE / 2);
-        (parts / WHOLE).max(1).min(4) as u8
+        (parts / WHOLE).max(1).min(LONGEST as u32) as u8
     }
 }

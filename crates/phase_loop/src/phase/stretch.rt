@@ -3,16 +3,16 @@ ghost use Rattle.std.specs.Prelude.{◌≡◌, ℕ, ◌+◌, ◌-◌, ◌*◌, �
 ghost use Rattle.std.specs.Prelude.{All, IfOk, IfSome, IsOk, OnErr, IsTrue, ◌↔◌};
 ghost use Rattle.std.specs.List.Sorted.{IsNonDecreasing};
 ghost use Rattle.cell_bits.specs.State.{room};
-ghost use Rattle.cell_bits.specs.Run.{IsShortRun};
+ghost use Rattle.cell_bits.specs.Run.{IsRun};
 ghost use Rattle.circular_buffer.specs.Buffer.{buffer};
 ghost use Rattle.phase_loop.specs.inside.Window.{IsShort, IsWindow, fine_total};
 ghost use Rattle.phase_loop.specs.inside.Certain.{AreTicks};
 ghost use Rattle.phase_loop.specs.inside.Stretch.{intervals_with, counts_of, stand_next, AreBetween, AreGuessed};
 ghost use Rattle.phase_loop.specs.inside.Stretch.{Carries, IsStretch, TakesRuns};
 
+use super::Loop;
 use super::certain::put_ticks;
 use super::guess::Guess;
-use super::{Loop, are_few, few_periods_in};
 use crate::start::{Band, FINE_PER_TICK};
 use crate::window::{INTERVALS, Interval, STRETCH, Totals};
 use cell_bits::Cells;
@@ -44,9 +44,8 @@ pub struct Stand {
 
 impl Loop {
     /// Takes the next of a track's transitions and appends their cells, if the window is full and the last stretch was
-    /// not a short one just now: as many as a stretch has, up to the first with more than four cells or before the
-    /// place. `last` is the number of the transition at which the loop stands, and the answer that of the one at which
-    /// it stands then.
+    /// not a short one just now: as many as a stretch has, up to the first with more than 32 cells. `last` is the number
+    /// of the transition at which the loop stands, and the answer that of the one at which it stands then.
     pub(crate) fn follow(
         &mut self,
         times: &[u64],
@@ -147,7 +146,7 @@ impl Loop {
             &mut counts[INTERVALS..INTERVALS + most],
         );
         let (stand, taken, certain) = self.take_counts(times, last, most, &mut ticks, counts);
-        cells.push_short_runs(&counts[INTERVALS..INTERVALS + taken])?;
+        cells.push_runs(&counts[INTERVALS..INTERVALS + taken])?;
         Ok((stand, last + taken, certain))
     }
 
@@ -282,30 +281,26 @@ fn intervals_to(times: &[u64], last: usize, counts: &[u8]) -> [Interval; INTERVA
 }
 
 impl Stand {
-    /// The count of cells to a time that is not before the place and has no more than four, and their
-    /// length: the guess, where it puts the time nearly right. A guess further off than the slack may be
-    /// right as well, and is counted anew.
+    /// The count of cells to a time, if it is no more than 32, and their length: the guess, where it puts the time
+    /// nearly right. A guess further off than the slack may be right as well, and is counted anew.
     fn near(self, fine: u64, guess: u8, slack: u64) -> Option<(u64, u64)>
         requires fine { fine ≤ 2 ^ 49 }
         requires place { self.place ≤ 2 ^ 50 }
         requires shortest { 1 ≤ self.period }
         requires longest { self.period ≤ 163840 }
         requires slack { 2 * slack ≤ self.period }
-        requires guess { IsShortRun guess }
+        requires guess { IsRun guess }
         ensures count { IfSome result (λ r. r.0 ≡ max 1 ((2 * (fine - self.place) + self.period) / (2 * self.period))) }
         ensures length { IfSome result (λ r. r.1 ≡ r.0 * self.period) }
-        ensures near { IfSome result (λ r. 2 * (fine - self.place) < 9 * self.period) }
-        ensures few { IfSome result (λ r. r.0 ≤ 4) }
+        ensures near { IfSome result (λ r. 2 * (fine - self.place) < 65 * self.period) }
+        ensures few { IfSome result (λ r. r.0 ≤ 32) }
     {
         let count = u64::from(guess);
         let length = count * self.period;
         if lie_within(self.place + length, fine, slack) {
             return Some((count, length));
         }
-        if fine < self.place {
-            return None;
-        }
-        let count = count_of_few(fine - self.place, self.period)?;
+        let count = count_of_run(fine.saturating_sub(self.place), self.period)?;
         Some((count, count * self.period))
     }
 
@@ -314,7 +309,7 @@ impl Stand {
     pub(super) fn after(self, band: Band, fine: u64, length: u64, total: u64, mean: u64) -> Stand
         requires fine { fine ≤ 2 ^ 49 }
         requires place { self.place ≤ 2 ^ 50 }
-        requires length { length ≤ 4 * 163840 }
+        requires length { length ≤ 32 * 163840 }
         ensures { (count : ℕ) → length ≡ count * self.period → result ≡ stand_next band self fine count total mean }
     {
         Stand {
@@ -325,22 +320,20 @@ impl Stand {
     }
 }
 
-/// How many periods lie in a way, where they are few. A call, so that a transition whose guess is right does
-/// not wait for the comparisons.
-#[cold]
-#[inline(never)]
-fn count_of_few(way: u64, period: u64) -> Option<u64>
+/// How many periods lie in a way, to the nearest, and at least one, where they are at most 32.
+fn count_of_run(way: u64, period: u64) -> Option<u64>
     requires way { way ≤ 2 ^ 50 }
-    requires period { period ≤ 163840 }
+    requires shortest { 1 ≤ period }
+    requires longest { period ≤ 163840 }
     ensures count { IfSome result (λ count. count ≡ max 1 ((2 * way + period) / (2 * period))) }
-    ensures near { IfSome result (λ count. 2 * way < 9 * period) }
-    ensures few { IfSome result (λ count. count ≤ 4) }
+    ensures near { IfSome result (λ count. 2 * way < 65 * period) }
+    ensures few { IfSome result (λ count. count ≤ 32) }
 {
-    if are_few(way, period) {
-        Some(few_periods_in(way, period))
-    } else {
-        None
+    if 2 * way >= 65 * period {
+        return None;
     }
+    let count = (2 * way + period) as u32 / (2 * period) as u32;
+    Some(u64::from(count.max(1)))
 }
 
 /// Whether a place and a time are no further apart than the slack.

@@ -1,6 +1,6 @@
 //! Lists of cells.
 ghost use Rattle.std.specs.Prelude.{All, IfOk};
-ghost use Rattle.cell_bits.specs.Run.{IsShortRun};
+ghost use Rattle.cell_bits.specs.Run.{IsRun};
 
 use cell_bits::Cells;
 use flux_base::Memory;
@@ -16,15 +16,16 @@ fn zeros(alloc: Global, count: u8) -> Result<Cells, Memory> {
     Ok(cells)
 }
 
-/// So many runs of one to four cells.
-fn short_runs(alloc: Global, length: usize) -> Result<Vec<u8>, Memory>
-    ensures { IfOk result (λ counts. All IsShortRun counts.items) }
+/// So many runs, of one to four cells where all are short, else of one to 32.
+fn runs(alloc: Global, length: usize, short: bool) -> Result<Vec<u8>, Memory>
+    ensures { IfOk result (λ counts. All IsRun counts.items) }
 {
     let mut noise = 1u32;
     let mut counts = Vec::new(alloc);
     for _ in 0..length {
         noise = noise.wrapping_mul(1_664_525).wrapping_add(1_013_904_223);
-        counts.push(1 + (noise >> 30) as u8)?;
+        let count = if short { noise >> 30 } else { noise >> 27 };
+        counts.push(1 + count as u8)?;
     }
     Ok(counts)
 }
@@ -112,24 +113,30 @@ fn each_push_crosses_the_border(rt: HostRuntime) -> Result<(), Fail> {
     Ok(())
 }
 
+/// Whether these runs appended together behind so many zeros are those appended one after another.
+fn are_one_after_another(alloc: Global, before: u8, counts: &[u8]) -> Result<bool, Memory>
+    requires { All IsRun counts.now }
+{
+    let mut together = zeros(alloc, before)?;
+    let mut apart = zeros(alloc, before)?;
+    together.push_runs(counts)?;
+    for place in 0..counts.len() {
+        apart.push_run(counts[place])?;
+    }
+    let mut same = together.len() == apart.len();
+    for place in 0..apart.len().min(together.len()) {
+        same = same && together.cell(place) == apart.cell(place);
+    }
+    Ok(same)
+}
+
 #[test]
-fn short_runs_are_runs_one_after_another(rt: HostRuntime) -> Result<(), Fail> {
-    for length in [0usize, 1, 7, 8, 9, 16, 23, 200] {
-        let counts = short_runs(rt.alloc(), length)?;
-        for before in [0u8, 1, 32, 63] {
-            let mut together = zeros(rt.alloc(), before)?;
-            let mut apart = zeros(rt.alloc(), before)?;
-            together.push_short_runs(&counts)?;
-            for count in &counts {
-                apart.push_run(*count)?;
-            }
-            assert_eq!(rt; together.len(), apart.len(), "{length} after {before}");
-            for place in 0..apart.len() {
-                assert_eq!(rt;
-                    together.cell(place),
-                    apart.cell(place),
-                    "{place} of {length} after {before}"
-                );
+fn runs_are_appended_one_after_another(rt: HostRuntime) -> Result<(), Fail> {
+    for length in [0usize, 1, 7, 8, 9, 16, 23, 200, 255, 256, 300] {
+        for short in [true, false] {
+            let counts = runs(rt.alloc(), length, short)?;
+            for before in [0u8, 1, 32, 63] {
+                assert!(rt; are_one_after_another(rt.alloc(), before, &counts)?);
             }
         }
     }

@@ -1,9 +1,9 @@
-use Rattle.std.proofs.Common.{◌≡◌, ℕ, ◌+◌, ◌*◌, ◌-◌, ◌++◌, List, Bool, length, take, drop, flat_map, arith, sym, ap, ◌∙◌, append_assoc, length-append}
+use Rattle.std.proofs.Common.{◌≡◌, ℕ, ◌+◌, ◌*◌, ◌-◌, ◌/◌, ◌++◌, List, Bool, OnOk, length, take, drop, flat_map, arith, subst, sym, ap, ◌∙◌, append_assoc, length-append}
 use Rattle.std.proofs.lemmas.Bool.{false≢true}
 use Rattle.cell_bits.specs.Word.{word_cells}
 use Rattle.cell_bits.specs.Run.{run_cells}
 use Rattle.cell_bits.specs.lemmas.WordLaws.{length-word_cells}
-use Rattle.cell_bits.proofs.Runs.{runs-after, runs-within, run-within}
+use Rattle.cell_bits.proofs.Runs.{behind, runs-after, runs-behind, runs-within, runs-split, length-split, short-runs}
 use Rattle.cell_bits.proofs.cells.Cells.push_groups.Goals as goal
 
 pub loop-group-preserved : goal.loop-group-preserved
@@ -42,14 +42,33 @@ returns-in_err-append-clause-succeeds c = λ enough.
       length-word_cells c.joined_runs-bits.result.1 c.joined_runs-bits.result.0,
     ))))
 
-pub returns-in_err-push_run-clause-succeeds : goal.returns-in_err-push_run-clause-succeeds
-returns-in_err-push_run-clause-succeeds c = λ enough.
-    let before : List Bool = flat_map run_cells (take c.loop-place.place c.args.counts.now) in
-    absurd (false≢true (c.in_err-push_run.ensures.succeeds (omega (
+pub push_each-requires : goal.push_each-requires
+push_each-requires c = record {
+  runs = runs-behind c.args.counts.now (8 * (length c.args.counts.now / 8)) (short-runs c.args.counts.now c.requires.short);
+}
+
+pub returns-clause-cells : goal.returns-clause-cells
+returns-clause-cells c =
+    let counts : List ℕ = c.args.counts.now in
+    let here : ℕ = 8 * (length counts / 8) in
+    let end : 8 * c.loop-group.group ≡ here = omega (arith, c.loop-group-test.false, c.loop-group.auto.group-end) in
+    let rest : List Bool = flat_map run_cells (behind counts here) in
+    let are : c.loop-group.self.cells ++ rest ≡ c.args.self.now.cells ++ flat_map run_cells counts =
+    ap (λ (cells : List Bool). cells ++ rest) (c.loop-group.invariant.cells ∙ ap (λ n. c.args.self.now.cells ++ flat_map run_cells (take n counts)) end)
+    ∙ append_assoc c.args.self.now.cells (flat_map run_cells (take here counts)) rest
+    ∙ ap (λ (cells : List Bool). c.args.self.now.cells ++ cells) (runs-split counts here) in
+    subst (λ (cells : List Bool). OnOk c.push_each.result (c.push_each.new.self.cells ≡ cells)) are c.push_each.ensures.cells
+
+pub returns-clause-succeeds : goal.returns-clause-succeeds
+returns-clause-succeeds c = λ enough.
+    let counts : List ℕ = c.args.counts.now in
+    let here : ℕ = 8 * (length counts / 8) in
+    let end : 8 * c.loop-group.group ≡ here = omega (arith, c.loop-group-test.false, c.loop-group.auto.group-end) in
+    c.push_each.ensures.succeeds (omega (
       arith,
       enough,
-      c.loop-place.invariant.room,
-      ap length c.loop-place.invariant.cells,
-      length-append c.args.self.now.cells before,
-      run-within c.args.counts.now c.loop-place.place c.loop-place-test.true (c.requires.short c.loop-place.place 0 c.loop-place-test.true).0,
-    ))))
+      c.loop-group.invariant.room,
+      ap length (c.loop-group.invariant.cells ∙ ap (λ n. c.args.self.now.cells ++ flat_map run_cells (take n counts)) end),
+      length-append c.args.self.now.cells (flat_map run_cells (take here counts)),
+      length-split counts here,
+    ))

@@ -8,9 +8,3 @@ invariant-loop-group l = record {
   cells : l.self.cells ≡ l.fn.self.cells ++ flat_map run_cells (take (8 * l.group) l.counts);
   room : room l.fn.self ≤ room l.self;
 }
-
-abbrev pub invariant-loop-place : goal.invariant-loop-place
-invariant-loop-place l = record {
-  cells : l.self.cells ≡ l.fn.self.cells ++ flat_map run_cells (take l.place l.counts);
-  room : room l.fn.self ≤ room l.self;
-}

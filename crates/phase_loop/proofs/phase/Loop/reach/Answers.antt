@@ -2,11 +2,11 @@ use Rattle.std.proofs.Common.{◌≡◌, ℕ, ◌+◌, ◌-◌, ◌*◌, ◌/◌
 use Rattle.std.proofs.lemmas.Bool.{cases_lt}
 use Rattle.std.proofs.lemmas.List.{get_or-take}
 use Rattle.std.proofs.lemmas.Option.{IfSome_then}
-use Rattle.cell_bits.specs.Run.{IsShortRun}
+use Rattle.cell_bits.specs.Run.{IsRun}
 use Rattle.phase_loop.specs.State.{LoopState}
 use Rattle.phase_loop.specs.inside.Certain.{IsReach, fine_at}
 use Rattle.phase_loop.proofs.Stretches.{IsBand, guess_short}
-use Rattle.phase_loop.proofs.Certain.{Evidence, begins, certain, counts_few, evidence_of, few_ticks, remainders_of}
+use Rattle.phase_loop.proofs.Certain.{Evidence, at_most_of, begins, certain, counts_few, evidence_of, few_ticks, remainders_of}
 use Rattle.phase_loop.proofs.phase.Loop.reach.Goals as goal
 
 pub make_remainders-extent-requires-clause-counts : goal.make_remainders-extent-requires-clause-counts
@@ -18,7 +18,7 @@ make_remainders-extent-requires-clause-counts c = λ place early.
           omega (arith, is, ap (λ (l : List ℕ). get_or l place 0) c.requires.counts, counts_few c.args.self.now.recent c.stand-stand.ensures.window.short place)
       | inr more ↦
           let number : 64 + (place - 64) ≡ place = omega (arith, more) in
-          let short : IsShortRun (slice_index counts (64 + (place - 64))) = guess_short c.args.most counts (place - 64) c.requires.guesses (omega (arith, early, more)) (omega (arith, early, more, c.requires.most, c.told-counts)) in
+          let short : IsRun (slice_index counts (64 + (place - 64))) = guess_short c.args.most counts (place - 64) c.requires.guesses (omega (arith, early, more)) (omega (arith, early, more, c.requires.most, c.told-counts)) in
           omega (arith, short.1, ap (λ (n : ℕ). slice_index counts n) number)
     ]
 
@@ -31,9 +31,10 @@ returns-clause-certain c = IfSome_then c.reach_by.result c.reach_by.ensures.reac
     let state : LoopState = c.args.self.now in
     let counts : List ℕ = c.args.counts.now in
     let off : ℕ = c.spread-off.result in
+    let longest : ℕ = c.longest_run-longest.result in
     let drift : ℕ = c.drift-drift.result in
-    let P : ℕ → Type 0 = λ p. IsReach state.band p c.stand-stand.result.place (fine_at times c.args.last) off drift reach in
-    let Q : ℕ → Type 0 = λ p. IsReach state.band state.period p (fine_at times c.args.last) off drift reach in
+    let P : ℕ → Type 0 = λ p. IsReach state.band p c.stand-stand.result.place (fine_at times c.args.last) off longest drift reach in
+    let Q : ℕ → Type 0 = λ p. IsReach state.band state.period p (fine_at times c.args.last) off longest drift reach in
     let is_reach = subst Q c.stand-stand.ensures.place.0 (subst P c.stand-stand.ensures.place.1 is) in
     let band : IsBand state.band = record { low = is_reach.shortest; rising = omega (arith, is_reach.low, is_reach.high); high = is_reach.longest } in
     let R : ℕ → Type 0 = λ p. Evidence times c.args.last c.args.most counts p off drift in
@@ -46,7 +47,8 @@ returns-clause-certain c = IfSome_then c.reach_by.result c.reach_by.ensures.reac
     (omega (arith, c.requires.inside, c.requires.window.enough)) few c.requires.ticks c.make_remainders-extent.ensures.remainders)
     (λ place early. c.spread-off.ensures _ (c.make_remainders-extent.ensures.extent place early))
     c.drift-drift.ensures in
-    certain times c.args.last c.args.most state counts off drift reach c.requires.rising c.requires.inside c.requires.most (omega (arith, c.told-counts)) c.requires.guesses band
+    certain times c.args.last c.args.most state counts off longest drift reach c.requires.rising c.requires.inside c.requires.most (omega (arith, c.told-counts)) c.requires.guesses
+    (at_most_of c.args.most counts longest (omega (arith, c.told-counts, c.requires.most)) c.longest_run-longest.ensures.bound) band
     (begins times c.args.last state counts c.stand-stand.result.count c.requires.rising (omega (arith, c.requires.inside)) c.requires.here c.requires.full c.requires.window c.requires.counts
     c.stand-stand.ensures.window (omega (arith, c.stand-stand.ensures.place, c.stand-stand.ensures.bounds)) (omega (arith, c.stand-stand.ensures.place, c.stand-stand.ensures.bounds)) (omega (arith, c.stand-stand.ensures.place, c.stand-stand.ensures.bounds)))
     (subst R c.stand-stand.ensures.place.1 evidence) is_reach)

@@ -1,6 +1,6 @@
 use Rattle.std.proofs.Common.{◌≡◌, ℕ, ◌+◌, ◌-◌, ◌*◌, ◌/◌, ◌<◌, ◌≤◌, List, length, slice_index, arith, refl, subst, sym, ap, ◌∙◌}
 use Rattle.std.proofs.Math.Nat.{mul-le-mul_right}
-use Rattle.cell_bits.specs.Run.{IsShortRun}
+use Rattle.cell_bits.specs.Run.{IsRun}
 use Rattle.phase_loop.specs.State.{LoopState}
 use Rattle.phase_loop.specs.inside.Stretch.{stand_next, TakesRuns}
 use Rattle.phase_loop.specs.inside.Certain.{fine_at, stand_at, AreEnds}
@@ -14,8 +14,8 @@ pub overflow_mul-length : goal.overflow_mul-length
 overflow_mul-length c =
     let k : ℕ = c.loop-taken.taken in
     let here = bounded_at _ _ _ _ _ _ c.requires.rising (c.requires.certain k (omega (arith, c.loop-taken-test.true))) in
-    let short : IsShortRun (slice_index c.args.counts.now (64 + k)) = guess_short c.args.most c.args.counts.now k c.requires.guesses c.loop-taken-test.true (omega (arith, c.told-counts, c.loop-taken-test.true, c.requires.most)) in
-    let most : c.from-count.result * c.loop-taken.early.period ≤ 4 * c.loop-taken.early.period = mul-le-mul_right c.loop-taken.early.period (omega (arith, c.from-count.ensures, short.1)) in
+    let short : IsRun (slice_index c.args.counts.now (64 + k)) = guess_short c.args.most c.args.counts.now k c.requires.guesses c.loop-taken-test.true (omega (arith, c.told-counts, c.loop-taken-test.true, c.requires.most)) in
+    let most : c.from-count.result * c.loop-taken.early.period ≤ 32 * c.loop-taken.early.period = mul-le-mul_right c.loop-taken.early.period (omega (arith, c.from-count.ensures, short.1)) in
     omega (arith, most, here.longest, c.loop-taken.invariant.ends.period)
 
 pub overflow_sub-total : goal.overflow_sub-total
@@ -27,7 +27,7 @@ pub overflow_add-total : goal.overflow_add-total
 overflow_add-total c =
     let k : ℕ = c.loop-taken.taken in
     let here = bounded_at _ _ _ _ _ _ c.requires.rising (c.requires.certain k (omega (arith, c.loop-taken-test.true))) in
-    let short : IsShortRun (slice_index c.args.counts.now (64 + k)) = guess_short c.args.most c.args.counts.now k c.requires.guesses c.loop-taken-test.true (omega (arith, c.told-counts, c.loop-taken-test.true, c.requires.most)) in
+    let short : IsRun (slice_index c.args.counts.now (64 + k)) = guess_short c.args.most c.args.counts.now k c.requires.guesses c.loop-taken-test.true (omega (arith, c.told-counts, c.loop-taken-test.true, c.requires.most)) in
     omega (arith, here.largest, c.loop-taken.invariant.ends.count, c.from-count.ensures, short.1)
 
 pub mean_of-mean-requires-clause-ticks : goal.mean_of-mean-requires-clause-ticks
@@ -54,16 +54,16 @@ pub after-early-requires-clause-length : goal.after-early-requires-clause-length
 after-early-requires-clause-length c =
     let k : ℕ = c.loop-taken.taken in
     let here = bounded_at _ _ _ _ _ _ c.requires.rising (c.requires.certain k (omega (arith, c.loop-taken-test.true))) in
-    let short : IsShortRun (slice_index c.args.counts.now (64 + k)) = guess_short c.args.most c.args.counts.now k c.requires.guesses c.loop-taken-test.true (omega (arith, c.told-counts, c.loop-taken-test.true, c.requires.most)) in
-    let most : c.from-count.result * c.loop-taken.early.period ≤ 4 * c.loop-taken.early.period = mul-le-mul_right c.loop-taken.early.period (omega (arith, c.from-count.ensures, short.1)) in
+    let short : IsRun (slice_index c.args.counts.now (64 + k)) = guess_short c.args.most c.args.counts.now k c.requires.guesses c.loop-taken-test.true (omega (arith, c.told-counts, c.loop-taken-test.true, c.requires.most)) in
+    let most : c.from-count.result * c.loop-taken.early.period ≤ 32 * c.loop-taken.early.period = mul-le-mul_right c.loop-taken.early.period (omega (arith, c.from-count.ensures, short.1)) in
     omega (arith, most, here.longest, c.loop-taken.invariant.ends.period)
 
 pub after-late-requires-clause-length : goal.after-late-requires-clause-length
 after-late-requires-clause-length c =
     let k : ℕ = c.loop-taken.taken in
     let here = bounded_at _ _ _ _ _ _ c.requires.rising (c.requires.certain k (omega (arith, c.loop-taken-test.true))) in
-    let short : IsShortRun (slice_index c.args.counts.now (64 + k)) = guess_short c.args.most c.args.counts.now k c.requires.guesses c.loop-taken-test.true (omega (arith, c.told-counts, c.loop-taken-test.true, c.requires.most)) in
-    let most : c.from-count.result * c.loop-taken.early.period ≤ 4 * c.loop-taken.early.period = mul-le-mul_right c.loop-taken.early.period (omega (arith, c.from-count.ensures, short.1)) in
+    let short : IsRun (slice_index c.args.counts.now (64 + k)) = guess_short c.args.most c.args.counts.now k c.requires.guesses c.loop-taken-test.true (omega (arith, c.told-counts, c.loop-taken-test.true, c.requires.most)) in
+    let most : c.from-count.result * c.loop-taken.early.period ≤ 32 * c.loop-taken.early.period = mul-le-mul_right c.loop-taken.early.period (omega (arith, c.from-count.ensures, short.1)) in
     omega (arith, most, here.longest, c.loop-taken.invariant.ends.period)
 
 pub after-late-requires-clause-place : goal.after-late-requires-clause-place

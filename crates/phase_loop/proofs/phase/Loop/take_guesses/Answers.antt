@@ -94,7 +94,7 @@ after-stand-requires-clause-place c =
 pub after-stand-requires-clause-length : goal.after-stand-requires-clause-length
 after-stand-requires-clause-length c =
     let s = c.loop-taken.invariant.stretch no_cells (omega arith) in
-    let most : c.in-Some.count * c.loop-taken.stand.period ≤ 4 * c.loop-taken.stand.period = mul-le-mul_right c.loop-taken.stand.period c.in-Some.ensures.few in
+    let most : c.in-Some.count * c.loop-taken.stand.period ≤ 32 * c.loop-taken.stand.period = mul-le-mul_right c.loop-taken.stand.period c.in-Some.ensures.few in
     omega (arith, most, s.longest, c.in-Some.ensures.length)
 
 pub loop-taken-preserved : goal.loop-taken-preserved

@@ -1,0 +1,10 @@
+use Rattle.std.proofs.Common.{◌≡◌, ◌≤◌, ◌++◌, take, flat_map}
+use Rattle.cell_bits.specs.State.{room}
+use Rattle.cell_bits.specs.Run.{run_cells}
+use Rattle.cell_bits.proofs.cells.Cells.push_each.Given as goal
+
+abbrev pub invariant-loop-place : goal.invariant-loop-place
+invariant-loop-place l = record {
+  cells : l.self.cells ≡ l.fn.self.cells ++ flat_map run_cells (take l.place l.counts);
+  room : room l.fn.self ≤ room l.self;
+}
