@@ -3,6 +3,7 @@ pub mod DataPlaces
 pub mod HeaderData
 pub mod Headers
 pub mod Names
+pub mod OwnRows
 pub mod RowWrites
 pub mod Searches
 pub mod Shifts

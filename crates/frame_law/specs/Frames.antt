@@ -1,6 +1,6 @@
 -- A sector on a track, said once for every recording: its header, and after it its data. What a
 -- header names and what data hold each recording says for itself.
-use Rattle.std.specs.Prelude.{◌≡◌, ℕ, ◌+◌, ◌^◌, ◌<◌, ◌≤◌, Bool, List, length}
+use Rattle.std.specs.Prelude.{◌≡◌, ℕ, ◌+◌, ◌-◌, ◌^◌, ◌<◌, ◌≤◌, Bool, List, length, take}
 use Rattle.cell_bits.specs.Broken.{Unbroken}
 use Rattle.cell_bits.specs.Word.{Stands}
 use Rattle.flux_base.specs.Bounds.{LONGEST_RING}
@@ -94,3 +94,12 @@ pub record IsWithinReach (header_cells data_place data_cells : ℕ) : Type 0 whe
   pub after : header_cells ≤ data_place
   pub near : data_place < header_cells + DATA_REACH
   pub few : data_place + data_cells ≤ LONGEST_RING
+
+-- The cells of a frame as they were recovered: its data stand at the place at which they are
+-- written, and all cells but the last seven are those of its rows, after some cell before them.
+-- (The last seven may be zeros of an erased stretch.)
+pub record AreCellsOfRows (rows : Bool → List Bool) (data_place frame_cells : ℕ)
+    (cells : List Bool) (place : ℕ) : Type 0 where
+  pub place_is : place ≡ data_place
+  pub before : Bool
+  pub same : take (frame_cells - 7) cells ≡ take (frame_cells - 7) (rows before)

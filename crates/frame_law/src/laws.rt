@@ -5,12 +5,15 @@ ghost use Rattle.cell_bits.specs.Broken.{Unbroken};
 ghost use Rattle.flux_base.specs.declared.track.TrackId.{TrackId};
 ghost use Rattle.frame_law.specs.Controller.{DataAreTold, DataStandAlone, HasHeaderData, HasOnlyOwnData};
 ghost use Rattle.frame_law.specs.Controller.{SearchesFindAll, SectorStandsBy, StrictHasData};
+ghost use Rattle.frame_law.specs.Frames.{AreCellsOfRows};
 ghost use Rattle.frame_law.specs.Laws.{HasOnlyOwn, HasOnlyOwnBetweenZeros, ReadingsAreAll, ReadingsAreOne};
 ghost use Rattle.frame_law.specs.Laws.{SectorsAreTold, StandsAlone};
 ghost use Rattle.frame_law.specs.Others.{HasNoOtherBetweenZeros, HeadersAreTold, NamedDataAreOwn};
+ghost use Rattle.track_rings.specs.OwnSectors.{between_zeros};
 ghost use Rattle.track_rings.specs.Rings.{AreSectors, IsSectorNumber, IsSpaced, LiesAt, bytes_of, stretch};
+ghost use Rattle.track_rings.specs.Rows.{rows_cells};
 
-use crate::Recording;
+use crate::{Layout, Recording};
 
 /// A list is that of the readings that repeated searches find in a list of cells exactly where it is all that
 /// stands there, and so they find one list.
@@ -109,4 +112,19 @@ pub fn only_own_data<R: Recording>()
         → LiesAt (R.ring_cells r track) (R.sector_place r track s) (R.frame_cells r) from count place
         → SectorStandsBy (R.header_at r track) (R.data_at r) (drop place (stretch (R.ring r track bytes) from count)) s
         (bytes_of (R.first_sector r) (R.sector_size r) bytes s) }
+{}
+
+/// Where data stand by the second rule after a sector's header, in any stretch of a repeated ring between zeros, the
+/// frame has the cells that were written, but for the last seven: those of its rows.
+pub fn frames_have_own_cells<L: Layout>()
+    ensures { (r : L) (track : TrackId) (bytes : List ℕ) (zeros from count behind place s at : ℕ) (xs : List ℕ)
+        → L.has_track r track
+        → AreSectors (L.sector_count r track) (L.sector_bytes r) bytes
+        → let recording = ⟦<L as Recording>⟧ in
+        let cells = drop place (between_zeros (recording.ring r track bytes) zeros from count behind) in
+        recording.header_at r track cells s → recording.data_at r cells at xs
+        → AreCellsOfRows
+        (λ before. rows_cells L.asks (L.row_cells r track) before s
+        (bytes_of (L.lowest_sector r) (L.sector_bytes r) bytes s) (L.rows r track).frame)
+        (L.data_place r) (L.data_place r + L.data_cells r) cells at }
 {}

@@ -21,8 +21,8 @@ mod table_recording;
 pub use cells_from::CellsFrom;
 pub use coding::Coding;
 pub use laws::{
-    data_are_read, headers_are_told, no_others, only_own, only_own_data, readings_are_all,
-    rings_hold_sectors, sectors_are_told,
+    data_are_read, frames_have_own_cells, headers_are_told, no_others, only_own, only_own_data,
+    readings_are_all, rings_hold_sectors, sectors_are_told,
 };
 pub use layout::Layout;
 pub use reading::{FoundHeader, Reading, SectorBuffer};

@@ -242,53 +242,60 @@ module _ (header_cells data_cells : ℕ) (header_end : List Bool → ℕ) (data_
             append_none [] = refl
             append_none (x ∷ xs) = ap (λ (rest : List Bool). x ∷ rest) (append_none xs)
 
-      -- in cells that agree with a frame of the ring up to seven before the
-      -- data's end, data are the ring's
-      pub same_data : (s size place other : ℕ) (cells : List Bool) (xs ys : List ℕ)
+      module _ (s size place other : ℕ) (cells : List Bool) (xs ys : List ℕ)
           (Given : List ℕ → Type 0) (rings : List ℕ → List Bool) (given : List ℕ)
-          → rings given ≡ ring → Given given
-          → (BeginAtOnce header_end is_sync)
+          (is_ring : rings given ≡ ring) (has : Given given)
+          (own : (BeginAtOnce header_end is_sync)
           ⊎ HasOwnDataSyncs header_cells data_cells data_place first sectors header_end is_sync
-          hold place_of Given rings
-          → IsSectorNumber first sectors s → data_end cells place ≤ size
-          → AgreeTo (data_end cells place - 7) cells (stretch ring (place_of s) size)
-          → Data cells place xs → Data (stretch ring (place_of s) size) other ys → xs ≡ ys
-      same_data s size place other cells xs ys Given rings given is_ring has own number long same
-          here there =
-          let part = stretch ring (place_of s) size in
-          let end = data_end cells place in
-          let past = ends.data_least cells place in
-          let size_is = length-stretch ring (place_of s) size in
-          let told = ends.header_told cells part
-          (agree-less (end - 7) cells part same (header_end cells)
-          (omega (arith, here.begin.after, past, ends.some))) in
-          let one : other ≡ place = elim own [
-            | inl once ↦
-                once part other there.begin.stands ∙ told ∙ sym (once cells place here.begin.stands)
-            | inr syncs ↦
-                let only = subst
-                (λ (r : List Bool).
-                Only (Syncs syncs.pattern)
-                (IsPlaceIn place_of first sectors
-                (IsDataOffset header_cells data_place syncs.lead)) r r) is_ring
-                (syncs.only given has) in
-                let found = fits-agree syncs.pattern (drop (place + syncs.lead) cells)
-                (drop (place + syncs.lead) part)
-                (agree-part (end - 7) cells part same (place + syncs.lead) (length syncs.pattern)
-                (omega (arith, syncs.short, past)))
-                (syncs.leads cells place xs here.begin.stands here.rest.held) in
-                one_place syncs.lead syncs.pattern syncs.short only s other size number
-                (omega (arith, there.begin.after, ends.header_least part))
-                (omega (arith, there.begin.near, syncs.near part, frame))
-                (omega (arith, there.rest.whole, size_is, ends.data_least part other))
-                (syncs.leads part other ys there.begin.stands there.rest.held)
-                ∙ sym (one_place syncs.lead syncs.pattern syncs.short only s place size number
-                (omega (arith, here.begin.after, ends.header_least cells))
-                (omega (arith, here.begin.near, syncs.near cells, frame))
-                (omega (arith, long, past)) found)
-          ] in
-          tells.held_early cells part place xs ys same here.rest.held
-          (subst (λ (n : ℕ). hold part n ys) one there.rest.held)
+          hold place_of Given rings)
+          (number : IsSectorNumber first sectors s) (long : data_end cells place ≤ size)
+          (same : AgreeTo (data_end cells place - 7) cells (stretch ring (place_of s) size))
+          (here : Data cells place xs) (there : Data (stretch ring (place_of s) size) other ys) where
+        abbrev part : List Bool
+        part = stretch ring (place_of s) size
+
+        -- in cells that agree with a frame of the ring up to seven before the
+        -- data's end, data stand where the ring's do
+        pub same_place : other ≡ place
+        same_place =
+            let end = data_end cells place in
+            let past = ends.data_least cells place in
+            let size_is = length-stretch ring (place_of s) size in
+            let told = ends.header_told cells part
+            (agree-less (end - 7) cells part same (header_end cells)
+            (omega (arith, here.begin.after, past, ends.some))) in
+            elim own [
+              | inl once ↦
+                  once part other there.begin.stands ∙ told
+                  ∙ sym (once cells place here.begin.stands)
+              | inr syncs ↦
+                  let only = subst
+                  (λ (r : List Bool).
+                  Only (Syncs syncs.pattern)
+                  (IsPlaceIn place_of first sectors
+                  (IsDataOffset header_cells data_place syncs.lead)) r r) is_ring
+                  (syncs.only given has) in
+                  let found = fits-agree syncs.pattern (drop (place + syncs.lead) cells)
+                  (drop (place + syncs.lead) part)
+                  (agree-part (end - 7) cells part same (place + syncs.lead)
+                  (length syncs.pattern) (omega (arith, syncs.short, past)))
+                  (syncs.leads cells place xs here.begin.stands here.rest.held) in
+                  one_place syncs.lead syncs.pattern syncs.short only s other size number
+                  (omega (arith, there.begin.after, ends.header_least part))
+                  (omega (arith, there.begin.near, syncs.near part, frame))
+                  (omega (arith, there.rest.whole, size_is, ends.data_least part other))
+                  (syncs.leads part other ys there.begin.stands there.rest.held)
+                  ∙ sym (one_place syncs.lead syncs.pattern syncs.short only s place size number
+                  (omega (arith, here.begin.after, ends.header_least cells))
+                  (omega (arith, here.begin.near, syncs.near cells, frame))
+                  (omega (arith, long, past)) found)
+            ]
+
+        -- and are the ring's
+        pub same_data : xs ≡ ys
+        same_data =
+            tells.held_early cells part place xs ys same here.rest.held
+            (subst (λ (n : ℕ). hold part n ys) same_place there.rest.held)
 
     -- so data after a header that stands in a stretch of a ring between zeros are its sector's
     pub own_content : (data_place frame_cells first sectors : ℕ) (place_of : ℕ → ℕ)
@@ -317,3 +324,42 @@ module _ (header_cells data_cells : ℕ) (header_end : List Bool → ℕ) (data_
         (agrees.agree place end size (omega (arith, ends.data_least cells place, ends.some))
         data_there.rest.whole data_there.rest.unbroken (omega arith) (omega arith))
         data_there there.1
+
+    -- and they stand at their place in its frame, whose cells but the last seven are the ring's
+    pub own_cells : (data_place frame_cells first sectors : ℕ) (place_of : ℕ → ℕ)
+        (Given : List ℕ → Type 0) (rings : List ℕ → List Bool)
+        (given : List ℕ) → Given given → data_place + data_cells ≡ frame_cells
+        → ((s t : ℕ) → IsSectorNumber first sectors s → IsSectorNumber first sectors t → s < t
+        → place_of s + frame_cells ≤ place_of t)
+        → (BeginAtOnce header_end is_sync)
+        ⊎ HasOwnDataSyncs header_cells data_cells data_place first sectors header_end is_sync
+        hold place_of Given rings
+        → (s place : ℕ) (content xs : List ℕ) (cells : List Bool)
+        → AgreesWithFrame header_end data_end is_sync hold first sectors place_of (rings given)
+        frame_cells s content cells
+        → Data cells place xs
+        → ((size : ℕ) → frame_cells ≤ size
+        → Data (stretch (rings given) (place_of s) size) data_place content)
+        → (place ≡ data_place)
+        × ((size : ℕ) × (frame_cells ≤ size)
+        × AgreeTo (frame_cells - 7) cells (stretch (rings given) (place_of s) size))
+    own_cells data_place frame_cells first sectors place_of Given rings given has frame apart own
+        s place content xs cells agrees data_there stands =
+        let end = data_end cells place in
+        let size = end + frame_cells in
+        let past = ends.data_least cells place in
+        let same = agrees.agree place end size (omega (arith, past, ends.some))
+        data_there.rest.whole data_there.rest.unbroken (omega arith) (omega arith) in
+        let one : data_place ≡ place =
+        same_place data_place frame_cells first sectors place_of (rings given) frame agrees.room
+        apart
+        s size place data_place cells xs content Given rings given refl has own agrees.number
+        (omega arith) same data_there (stands size (omega arith)) in (
+          sym one,
+          (
+            size,
+            omega arith,
+            agree-less (end - 7) cells (stretch (rings given) (place_of s) size) same
+                (frame_cells - 7) (omega (arith, past, frame, one)),
+          ),
+        )
