@@ -4,8 +4,10 @@
 
 mod data_field;
 mod header;
+mod laws;
 mod layout;
 mod recording;
 mod rows;
 
+pub use laws::own_data_are_not_deleted;
 pub use recording::IbmFm;

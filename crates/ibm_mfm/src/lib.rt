@@ -5,9 +5,11 @@
 mod data_field;
 mod header;
 mod heads;
+mod laws;
 mod layout;
 mod recording;
 mod rows;
 
 pub use heads::HeadNumbers;
+pub use laws::own_data_are_not_deleted;
 pub use recording::IbmMfm;

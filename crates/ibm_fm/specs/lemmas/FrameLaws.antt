@@ -15,7 +15,7 @@ use Rattle.track_rings.specs.Rows.{coded, rows_cells}
 use Rattle.frame_law.specs.Frames.{FrameStands}
 use Rattle.ibm_disks.specs.Numbers.{code_of, size_of}
 use Rattle.ibm_disks.specs.lemmas.NumberLaws.{code-low}
-use Rattle.ibm_fields.specs.Fields.{high_first, number_at}
+use Rattle.ibm_fields.specs.Fields.{DATA_BYTE, high_first, number_at}
 use Rattle.ibm_fields.specs.lemmas.FieldLaws.{bytes_at-past, data_byte-past, number_at-past}
 use Rattle.ibm_fields.specs.lemmas.Numbers.{crc-lt}
 use Rattle.ibm_fm.specs.declared.recording.IbmFm.{IbmFm}
@@ -124,6 +124,12 @@ no-mark header rest place size above below some =
       ]
     ]
 
+-- the mark of data, the byte FB
+data_mark : (header rest : List Bool) → length header ≡ 112
+    → data_byte (header ++ (gap_and_mark ++ rest)) 384 ≡ 0xFB
+data_mark header rest header_size =
+    data_byte-past header (gap_and_mark ++ rest) 112 272 header_size ∙ gap_byte rest
+
 -- data hold their bytes
 holds : (header : List Bool) (bytes : List ℕ) (rest : List Bool) → length header ≡ 112
     → AreBytes bytes
@@ -133,8 +139,7 @@ holds header bytes rest header_size fit =
     let check = high_first (check_of 0xFB bytes) in
     let behind = field_cells 0xFB bytes ++ rest in
     let gap = gap_and_mark ++ behind in
-    let byte : data_byte (header ++ gap) 384 ≡ 0xFB =
-    data_byte-past header gap 112 272 header_size ∙ gap_byte behind in
+    let byte = data_mark header behind header_size in
     let place : 384 + 16 * (size + 1) ≡ 112 + (288 + 16 * size) = omega arith in
     record {
       opens = inl (ap (take 16) (drop-past header gap 112 272 header_size) ∙ gap_mark behind);
@@ -149,6 +154,47 @@ holds header bytes rest header_size fit =
           ∙ ap (λ (mark : ℕ). check_of mark bytes) (sym byte);
     }
 
+-- a header's cells
+abbrev header_of : ℕ → TrackId → ℕ → List Bool
+header_of code track sector = word_cells 16 0xF57E ++ field_cells 0xFE (address_of code track sector)
+
+length-header_of : (code : ℕ) (track : TrackId) (sector : ℕ)
+    → length (header_of code track sector) ≡ 112
+length-header_of code track sector =
+    let address = address_of code track sector in
+    omega (
+      arith,
+      length-append (word_cells 16 0xF57E) (field_cells 0xFE address),
+      length-word_cells 16 0xF57E,
+      length-field_cells 0xFE address,
+    )
+
+frame-grouped : (code : ℕ) (track : TrackId) (sector : ℕ) (bytes : List ℕ) (rest : List Bool)
+    → frame_of code track sector bytes rest
+    ≡ header_of code track sector ++ (gap_and_mark ++ (field_cells 0xFB bytes ++ rest))
+frame-grouped code track sector bytes rest =
+    sym
+    (append_assoc (word_cells 16 0xF57E) (field_cells 0xFE (address_of code track sector))
+    (gap_and_mark ++ (field_cells 0xFB bytes ++ rest)))
+
+-- so the rows of a frame have that mark
+pub rows_mark : (recording : IbmFm) (track : TrackId) (sector : ℕ) (bytes : List ℕ) (before : Bool)
+    → data_byte
+    (rows_cells false (row_cells recording.numbers track) before sector bytes
+    (rows_of recording.numbers).frame) 384
+    ≡ DATA_BYTE
+rows_mark recording track sector bytes before =
+    let code = code_of recording.numbers.size in
+    ap (λ (cells : List Bool). data_byte cells 384)
+    (sym
+    (append-nil
+    (rows_cells false (row_cells recording.numbers track) before sector bytes
+    (rows_of recording.numbers).frame))
+    ∙ frame-cells recording track sector bytes before []
+    ∙ frame-grouped code track sector bytes [])
+    ∙ data_mark (header_of code track sector) (field_cells 0xFB bytes ++ [])
+    (length-header_of code track sector)
+
 -- the rows of a frame are read back
 pub frame_stands : (recording : IbmFm) (track : TrackId) (sector : ℕ) (bytes : List ℕ)
     (before : Bool) (rest : List Bool)
@@ -162,19 +208,11 @@ pub frame_stands : (recording : IbmFm) (track : TrackId) (sector : ℕ) (bytes :
     ++ rest) sector bytes
 frame_stands recording track sector bytes before rest known number fit size =
     let code = (code_of recording.numbers.size) in
-    let mark = word_cells 16 0xF57E in
     let field = field_cells 0xFE (address_of code track sector) in
-    let header = mark ++ field in
+    let header = header_of code track sector in
     let behind = field_cells 0xFB bytes ++ rest in
-    let header_size : length header ≡ 112 =
-    omega (
-      arith,
-      length-append mark field,
-      length-word_cells 16 0xF57E,
-      length-field_cells 0xFE (address_of code track sector),
-    ) in
-    let grouped : frame_of code track sector bytes rest ≡ header ++ (gap_and_mark ++ behind) =
-    sym (append_assoc mark field (gap_and_mark ++ behind)) in
+    let header_size = length-header_of code track sector in
+    let grouped = frame-grouped code track sector bytes rest in
     let data_held = holds header bytes rest header_size fit in
     subst
     (λ (cells : List Bool).

@@ -13,7 +13,7 @@ use Rattle.track_rings.specs.lemmas.Parts.{drop-past}
 use Rattle.track_rings.specs.Rings.{IsSectorNumber, AreBytes}
 use Rattle.track_rings.specs.Rows.{rows_cells}
 use Rattle.frame_law.specs.Frames.{FrameStands}
-use Rattle.ibm_fields.specs.Fields.{bytes_at, high_first}
+use Rattle.ibm_fields.specs.Fields.{DATA_BYTE, bytes_at, high_first}
 use Rattle.ibm_fields.specs.lemmas.FieldLaws.{data_byte-first, number_at-high_first}
 use Rattle.ibm_fields.specs.lemmas.Numbers.{AreBytes-high_first, crc-lt}
 use Rattle.mfm_coding.specs.declared.symbol.Symbol.{Symbol}
@@ -107,25 +107,31 @@ unfolding coded symbol_cells mfm mfm_cells word_cells
 gap-sync true after rest = refl
 gap-sync false after rest = refl
 
+-- the mark of data, the byte FB
+data_mark : (code : ℕ) (track : TrackId) (sector : ℕ) (bytes : List ℕ) (before : Bool)
+    (rest : List Bool)
+    → data_byte (coded before (front code track sector ++ content bytes) ++ rest) 752 ≡ 0xFB
+unfolding AreBytes
+data_mark code track sector bytes before rest =
+    let opening = header code track sector
+    ++ (replicate 22 (Data 0x4E) ++ (replicate 12 (Data 0x00) ++ three_marks)) in
+    data_byte-first (coded before (front code track sector ++ content bytes) ++ rest) 752 0 0xFB []
+    (reads-after before opening (0xFB ∷ []) (content bytes) rest (lit< tt, tt))
+
 -- data hold their bytes
 holds : (code : ℕ) (track : TrackId) (sector : ℕ) (bytes : List ℕ) (before : Bool)
     (rest : List Bool)
     → AreBytes bytes
     → Hold (length bytes) (coded before (front code track sector ++ content bytes) ++ rest) 704
     bytes
-unfolding AreBytes
 holds code track sector bytes before rest fit =
     let number = check_of 0xFB bytes in
     let check = high_first number in
     let fits : number < 65536 = crc-lt 0xFFFF (0xA1 ∷ 0xA1 ∷ 0xA1 ∷ 0xFB ∷ bytes) (lit< tt) in
     let some = front code track sector in
-    let opening = header code track sector
-    ++ (replicate 22 (Data 0x4E) ++ (replicate 12 (Data 0x00) ++ three_marks)) in
     let cells = coded before (some ++ content bytes) ++ rest in
     let others = some ++ bytes_as_data bytes in
-    let first : data_byte cells 752 ≡ 0xFB =
-    data_byte-first cells 752 0 0xFB []
-    (reads-after before opening (0xFB ∷ []) (content bytes) rest (lit< tt, tt)) in
+    let first = data_mark code track sector bytes before rest in
     let further : some ++ content bytes ≡ others ++ (bytes_as_data check ++ []) =
     sym (append_assoc some (bytes_as_data bytes) (bytes_as_data check)) in
     let number_place : ℕ = 704 + 16 * (length bytes + 4) in
@@ -144,6 +150,26 @@ holds code track sector bytes before rest fit =
           ∙ reads-after before others check [] rest (AreBytes-high_first number fits))
           ∙ ap (λ (byte : ℕ). check_of byte bytes) (sym first);
     }
+
+-- the cells of a frame's rows
+rows-are : (disk : TrackNumbers) (track : TrackId) (sector : ℕ) (bytes : List ℕ) (before : Bool)
+    → rows_cells true (row_cells disk track) before sector bytes (rows_of disk).frame
+    ≡ coded before (front (code_of disk.size) track sector ++ content bytes)
+rows-are disk track sector bytes before =
+    rows-coded (row_symbols disk track) before sector bytes (rows_of disk).frame
+    ∙ ap (coded before) (frame-symbols disk track sector bytes)
+
+-- so they have that mark
+pub rows_mark : (disk : TrackNumbers) (track : TrackId) (sector : ℕ) (bytes : List ℕ)
+    (before : Bool)
+    → data_byte (rows_cells true (row_cells disk track) before sector bytes (rows_of disk).frame)
+    752 ≡ DATA_BYTE
+rows_mark disk track sector bytes before =
+    let code = code_of disk.size in
+    ap (λ (cells : List Bool). data_byte cells 752)
+    (rows-are disk track sector bytes before
+    ∙ sym (append-nil (coded before (front code track sector ++ content bytes))))
+    ∙ data_mark code track sector bytes before []
 
 -- the rows of a frame are read back
 pub frame_stands : (recording : IbmMfm) (track : TrackId) (sector : ℕ) (bytes : List ℕ)
@@ -169,9 +195,7 @@ frame_stands recording track sector bytes before rest known number fit size =
     let written : rows_cells true (row_cells disk track) before sector bytes (rows_of disk).frame
     ++ rest
     ≡ whole =
-    ap (λ (cells : List Bool). cells ++ rest)
-    (rows-coded (row_symbols disk track) before sector bytes (rows_of disk).frame
-    ∙ ap (coded before) (frame-symbols disk track sector bytes)) in
+    ap (λ (cells : List Bool). cells ++ rest) (rows-are disk track sector bytes before) in
     let apart : whole ≡ first ++ then =
     ap (λ (cells : List Bool). cells ++ rest) (coded-append before some after)
     ∙ append_assoc first (coded bit after) rest in
