@@ -2,16 +2,15 @@
 use Rattle.std.proofs.Common.{◌≡◌, ◌<◌, ◌≤◌, ◌⊎◌, ◌↔◌, ◌+◌, ◌-◌, ◌*◌, ◌∙◌, ℕ, zero, suc, Bool, true, false, List, [], ◌∷◌, Option, Some, drop, length, map, append-nil, ap, refl, sym, subst, inl, inr, arith}
 use Rattle.std.specs.Prelude.{Contains, IsTrue, flat_map, slice_index}
 use Rattle.std.proofs.lemmas.Bool.{cases_eq, cases_lt}
-use Rattle.std.proofs.lemmas.List.{get_or-map, length-map}
-use Rattle.std.proofs.lemmas.List.Elements.{Contains-append_cases, Contains-append_left, Contains-append_right}
-use Rattle.disk_recordings.specs.Laws.{DataAreRead, NamesAreTold, RingsHaveCells}
-use Rattle.disk_recordings.specs.Members.{data_at, header_at, named_at}
+use Rattle.disk_recordings.specs.Laws.{AreTrackBytes, DataAreRead, NamesAreTold, RingsHaveCells}
+use Rattle.disk_recordings.specs.Members.{data_at, header_at, named_at, ring_at}
+use Rattle.disk_recordings.specs.declared.disk_id.DiskId.{DiskId}
 use Rattle.flux_base.specs.declared.header_name.HeaderName.{HeaderName}
 use Rattle.flux_base.specs.declared.header_name.HeaderName.TheVariants.{Address}
 use Rattle.flux_base.specs.declared.track.TrackId.{TrackId}
 use Rattle.flux_engine.specs.Captures.{Capture, IsSteady, SteadyCapturesAreRecovered}
 use Rattle.flux_engine.specs.Recordings.{cells_by, track_at}
-use Rattle.flux_engine.specs.Rings.{IsImage, nominal_of, ring_of}
+use Rattle.flux_engine.specs.Rings.{IsImage, disk_id, nominal_of, ring_of, track_bytes}
 use Rattle.flux_engine.specs.Rules.{StandsBy}
 use Rattle.flux_engine.specs.declared.plan.Rule.TheVariants.{Controller}
 use Rattle.frame_law.specs.Controller.{AreFound, START_ZEROS}
@@ -23,6 +22,7 @@ use Rattle.ibm_disks.specs.declared.rate.Rate.{Rate}
 use Rattle.ibm_disks.specs.declared.sector_size.SectorSize.{SectorSize}
 use Rattle.ibm_disks.specs.declared.sector_size.SectorSize.TheVariants.{Bytes128, Bytes256, Bytes512, Bytes1024}
 use Rattle.ibm_disks.specs.declared.track_numbers.TrackNumbers.{TrackNumbers}
+use Rattle.ibm_fields.specs.Fields.{DATA_BYTE}
 use Rattle.ibm_walks.specs.Headers.{FoundName, HasSync, HoldBy, IsNameAt, IsNamed, address_of, data_of, mark_at, since_index, size_of_code}
 use Rattle.flux_engine.specs.Tracks.{time_of_place}
 use Rattle.ibm_walks.specs.Rates.{cells_at}
@@ -31,6 +31,7 @@ use Rattle.kryo_stream.specs.Stream.{indexes, times}
 use Rattle.law_captured_disks.specs.Frames.{written_track}
 use Rattle.law_captured_disks.specs.Headline.{IsSectorOf}
 use Rattle.law_captured_disks.specs.Others.{CapturesHaveNoOthers}
+use Rattle.law_captured_disks.specs.lemmas.TrackBytes.{are_sectors}
 use Rattle.law_captured_disks.specs.lemmas.WrittenTracks.{AreWritten, are_written}
 use Rattle.law_decoded_rings.specs.Pieces.{RingPiece, begin_of_piece, cells_of_ring_pieces}
 use Rattle.law_decoded_rings.specs.Verdicts.{PiecesAreRightWithin, TwoRingsHaveSectors}
@@ -38,12 +39,14 @@ use Rattle.law_numbered_dumps.specs.lemmas.Recorded.{cells_are, data_from, data_
 use Rattle.name_book.specs.Names.{NotedData}
 use Rattle.name_book.specs.declared.name.NamedHeader.{NamedHeader}
 use Rattle.name_book.specs.declared.name.SectorName.{SectorName}
-use Rattle.sector_images.specs.Places.{NumbersNameTracks, SectorsLieInImages, tracks}
+use Rattle.sector_images.specs.Places.{IsTrack, NumbersNameTracks, SectorsLieInImages, tracks}
 use Rattle.sector_images.specs.declared.format.Format.{Format}
 use Rattle.sector_images.specs.declared.format.Format.TheVariants.{Numbered}
+use Rattle.track_rings.specs.OwnSectors.{between_zeros}
 use Rattle.track_rings.specs.Rings.{IsSectorNumber, last_in, stretch}
 use Rattle.turn_merge.specs.declared.clock.Clock.{Clock}
 use Rattle.law_imd_tracks.specs.Headline.{AreDataOn, AreOfTrack, IsNameOn, name_on}
+use Rattle.law_imd_tracks.specs.lemmas.Elements.{flat_from, flat_has, map_from, map_has}
 
 -- what the crates below promise
 pub record Laws : Type 0 where
@@ -58,6 +61,10 @@ pub record Laws : Type 0 where
       → TwoRingsHaveSectors (StandsBy Controller format (track_at format k)) (written_track format image k)
   pub pieces : (format : Format) (image : List ℕ) (k : ℕ) → IsImage format image → k < length (tracks format)
       → PiecesAreRightWithin (StandsBy Controller format (track_at format k)) (written_track format image k) START_ZEROS
+  pub marked : (disk : IbmDisk) (id : DiskId) (track : TrackId) (bytes : List ℕ) (zeros from count behind place s at : ℕ) (xs : List ℕ) → IsTrack (Numbered disk) track
+      → AreTrackBytes (Numbered disk) track bytes
+      → let cells = drop place (between_zeros (ring_at (Numbered disk) id track bytes) zeros from count behind) in
+      header_at (Numbered disk) track cells s → data_at (Numbered disk) cells at xs → mark_at (density_of (rate_of disk)) cells at ≡ DATA_BYTE
 
 -- what is found stands
 found_stands : {X : Type 0} (At : ℕ → X → Type 0) (from : ℕ) (found : List (ℕ × X)) (f : ℕ × X) → AreFound At from found → Contains found f → At f.0 f.1
@@ -120,20 +127,6 @@ some_bool A none = none false ((λ yes. absurd (no yes)), λ a. absurd (none tru
     no : false ≡ true → ⊥
     no e = cc
 
--- an element of what a list comes to is that of one of its elements
-map_from : {X Y : Type 0} (f : X → Y) (xs : List X) (y : Y) → Contains (map f xs) y → (x : X) × Contains xs x × (f x ≡ y)
-map_from f [] y has = absurd (let low = has.1 in omega (arith, low))
-map_from f (x ∷ xs) y (zero, low, same) = (x, (0, omega arith, refl), same)
-map_from f (x ∷ xs) y (suc k, low, same) = let rest = map_from f xs y (k, omega (arith, low), same) in (rest.0, (suc rest.1.0, (let at = rest.1.1 in omega (arith, at)), rest.1.2), rest.2)
-
-flat_from : {X Y : Type 0} (f : X → List Y) (xs : List X) (y : Y) → Contains (flat_map f xs) y → (x : X) × Contains xs x × Contains (f x) y
-flat_from f [] y has = absurd (let low = has.1 in omega (arith, low))
-flat_from f (x ∷ xs) y has = by (Contains-append_cases (f x) (flat_map f xs) y has) (flat_from f xs y)
-  where
-    by : Contains (f x) y ⊎ Contains (flat_map f xs) y → (Contains (flat_map f xs) y → (z : _) × Contains xs z × Contains (f z) y) → (z : _) × Contains (x ∷ xs) z × Contains (f z) y
-    by (inl here) rest = (x, (0, omega arith, refl), here)
-    by (inr later) rest = let r = rest later in (r.0, (suc r.1.0, (let at = r.1.1 in omega (arith, at)), r.1.2), r.2)
-
 -- a size is that of its code
 size_is : (size : SectorSize) → size_of_code (code_of size) ≡ Some size
 size_is Bytes128 = refl
@@ -155,11 +148,6 @@ module _ (c h s k c' h' s' k' : ℕ) (e : Address c h s k ≡ Address c' h' s' k
   code_is : k ≡ k'
   code_is = cc
 
-flat_has : {X Y : Type 0} (f : X → List Y) (xs : List X) (x : X) (y : Y) → Contains xs x → Contains (f x) y → Contains (flat_map f xs) y
-flat_has f [] x y there here = absurd (let low = there.1 in omega (arith, low))
-flat_has f (z ∷ zs) x y (zero, low, same) here = Contains-append_left (f z) (flat_map f zs) y (subst (λ (at : _). Contains (f at) y) (sym same) here)
-flat_has f (z ∷ zs) x y (suc k, low, same) here = Contains-append_right (f z) (flat_map f zs) y (flat_has f zs x y (k, omega (arith, low), same) here)
-
 -- a name by its parts
 same_sector_name : (a b : SectorName) → address_of a ≡ address_of b → a ≡ b
 same_sector_name a b e =
@@ -167,9 +155,6 @@ same_sector_name a b e =
     ∙ ap (λ (k : ℕ). record a { cylinder = b.cylinder; head = k }) (side_is a.cylinder a.head a.number a.code b.cylinder b.head b.number b.code e)
     ∙ ap (λ (k : ℕ). record b { number = k; code = a.code }) (number_is a.cylinder a.head a.number a.code b.cylinder b.head b.number b.code e)
     ∙ ap (λ (k : ℕ). record b { code = k }) (code_is a.cylinder a.head a.number a.code b.cylinder b.head b.number b.code e)
-
-map_has : {X Y : Type 0} (f : X → Y) (xs : List X) (x : X) → Contains xs x → Contains (map f xs) (f x)
-map_has f xs x (k, low, same) = (k, (let long = length-map xs f in omega (arith, long, low)), get_or-map f xs k x (f x) low ∙ ap f same)
 
 module _ (laws : Laws) (clock : Clock) (disk : IbmDisk) (image x : List ℕ) (n dump : ℕ) (headers : List NamedHeader) (noted : List NotedData) (is : IsImage (Numbered disk) image)
     (known : n < length (tracks (Numbered disk))) (capture : Capture x (ring_of (Numbered disk) image n) (nominal_of (Numbered disk) n))
@@ -271,8 +256,16 @@ module _ (laws : Laws) (clock : Clock) (disk : IbmDisk) (image x : List ℕ) (n 
         let sector_stands : StandsBy Controller format track (drop place cells) on.sector hold.bytes = (header, (behind, data_from disk (drop place cells) behind hold.bytes hold.stand)) in
         let own = (laws.pieces format image n is known piece []).0.own_bytes place on.sector hold.bytes
         (subst (λ (cs : List Bool). StandsBy Controller format track (drop place cs) on.sector hold.bytes) of_piece sector_stands) in
-        let mark : ℕ = mark_at (density_of rate) (drop place cells) behind in
-        record { name = on; mark = mark; held = hold.are ∙ ap (λ (bytes : List ℕ). mark ∷ bytes) (own ∙ written.content n on.sector on.known) }
+        let mark = laws.marked disk (disk_id format image) track (track_bytes format track image) 0 piece.from piece.count 0 place on.sector behind hold.bytes
+        (written.known n known) (are_sectors laws.lie format track image is (written.known n known))
+        (subst (λ (cs : List Bool). header_at format track (drop place cs) on.sector) of_piece header)
+        (subst (λ (cs : List Bool). data_at format (drop place cs) behind hold.bytes) of_piece (data_from disk (drop place cells) behind hold.bytes hold.stand)) in
+        let here = ap (λ (cs : List Bool). mark_at (density_of rate) (drop place cs) behind) of_piece ∙ mark in
+        record {
+          name = on;
+          held = hold.are ∙ ap (λ (m : ℕ). m ∷ hold.bytes) here
+              ∙ ap (λ (bytes : List ℕ). DATA_BYTE ∷ bytes) (own ∙ written.content n on.sector on.known);
+        }
 
   -- each sector stands
   stands : (sector : ℕ) → IsSectorOf format n sector → (place : ℕ) × StandsBy Controller format track (drop place cells) sector ((written_track format image n).bytes_of sector)

@@ -7,6 +7,7 @@ use Rattle.flux_engine.specs.Rings.{IsImage, nominal_of, ring_of, sector_bytes}
 use Rattle.ibm_disks.specs.Disks.{rate_of, track_of_disk}
 use Rattle.ibm_disks.specs.Numbers.{code_of}
 use Rattle.ibm_disks.specs.declared.disk.IbmDisk.{IbmDisk}
+use Rattle.ibm_fields.specs.Fields.{DATA_BYTE}
 use Rattle.ibm_walks.specs.Walks.{AreNamesBy}
 use Rattle.kryo_stream.specs.Stream.{indexes, times}
 use Rattle.law_captured_disks.specs.Headline.{IsSectorOf}
@@ -32,12 +33,15 @@ pub record IsNameOn (disk : IbmDisk) (n : ℕ) (name : SectorName) : Type 0 wher
   pub known : IsSectorOf (Numbered disk) n sector
   pub is : name ≡ name_on disk (track_at (Numbered disk) n) sector
 
--- data of one of them: a mark, and the bytes that an image has of the sector
+-- what whole data of one of them hold: the mark of data, and the bytes that an image has of it
+abbrev pub held_on : (disk : IbmDisk) (image : List ℕ) (n sector : ℕ) → List ℕ
+held_on disk image n sector =
+    DATA_BYTE ∷ sector_bytes (Numbered disk) (track_at (Numbered disk) n) image sector
+
+-- data of one of them
 pub record AreDataOn (disk : IbmDisk) (image : List ℕ) (n : ℕ) (noted : NotedData) : Type 0 where
   pub name : IsNameOn disk n noted.name
-  pub mark : ℕ
-  pub held : noted.held
-      ≡ mark ∷ sector_bytes (Numbered disk) (track_at (Numbered disk) n) image name.sector
+  pub held : noted.held ≡ held_on disk image n name.sector
 
 -- all headers and all whole data are those of the track's sectors, of which each is met with both
 pub record AreOfTrack (disk : IbmDisk) (image : List ℕ) (n : ℕ) (headers : List NamedHeader)

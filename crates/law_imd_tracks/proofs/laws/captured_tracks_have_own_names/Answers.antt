@@ -11,6 +11,7 @@ use Rattle.law_captured_disks.specs.lemmas.Owning.{rewritten_are_own}
 use Rattle.law_decoded_rings.specs.Verdicts.{PiecesAreRightWithin, TwoRingsHaveSectors}
 use Rattle.sector_images.specs.Places.{tracks}
 use Rattle.sector_images.specs.declared.format.Format.{Format}
+use Rattle.law_imd_tracks.proofs.Marks.{marked}
 use Rattle.law_imd_tracks.proofs.Names.{Laws, of_track}
 use Rattle.law_imd_tracks.proofs.laws.captured_tracks_have_own_names.Goals as goal
 
@@ -41,6 +42,7 @@ laws c = record {
   reads = c.rewritten_tracks_are_read.ensures;
   two_rings = two_rings c;
   pieces = pieces c;
+  marked = marked c.own_data_are_not_deleted.ensures c.own_data_are_not_deleted-2.ensures;
 }
 
 pub returns : goal.returns

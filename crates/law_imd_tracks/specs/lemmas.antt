@@ -1,0 +1,2 @@
+-- What follows from the definitions: nobody has to believe it.
+pub mod Elements
