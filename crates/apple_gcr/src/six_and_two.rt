@@ -1,5 +1,5 @@
-ghost use Rattle.std.specs.Prelude.{◌≡◌, ℕ, ◌*◌, ◌/◌, ◌%◌, ◌<◌, [], length, get_or};
-ghost use Rattle.apple_gcr.specs.SixAndTwo.{Carries, low_pair, swapped, value_at as value_of_bytes};
+ghost use Rattle.std.specs.Prelude.{◌≡◌, ℕ, ◌*◌, ◌/◌, ◌%◌, ◌<◌, ◌+◌, [], length, get_or};
+ghost use Rattle.apple_gcr.specs.SixAndTwo.{Carries, swapped, value_at as value_of_bytes};
 
 use crate::layout::SECTOR_SIZE;
 use arrayvec::ArrayVec;
@@ -51,23 +51,31 @@ pub(crate) fn take_bytes(values: &[u8], buffer: &mut SectorBuffer)
     requires fit { (k : ℕ) → get_or values.now k 0 < 64 }
     ensures { Carries values.now buffer.new.items }
 {
-    for index in 0..SECTOR_SIZE as usize {
-        let high = values[LOW_VALUES + index];
-        buffer.push(4 * high + swapped(low_bits(values, index)));
+    let mut bytes = [0; SECTOR_SIZE as usize];
+    // A loop for each pair of low bits, so that none is asked for which.
+    for index in 0..LOW_VALUES {
+        bytes[index] = byte_of(values[LOW_VALUES + index], values[index]);
+    }
+    for index in LOW_VALUES..2 * LOW_VALUES {
+        bytes[index] = byte_of(values[LOW_VALUES + index], values[index - LOW_VALUES] / 4);
+    }
+    for index in 2 * LOW_VALUES..SECTOR_SIZE as usize {
+        bytes[index] = byte_of(
+            values[LOW_VALUES + index],
+            values[index - 2 * LOW_VALUES] / 16,
+        );
+    }
+    match buffer.try_extend_from_slice(&bytes) {
+        Ok(()) => {}
+        // There is room for the longest sector.
+        Err(_) => unreachable!(),
     }
 }
 
-/// The value that has the low bits of the byte at the index, moved down until they are the lowest.
-fn low_bits(values: &[u8], index: usize) -> u8
-    requires size { length values.now ≡ 342 }
-    requires within { index < 256 }
-    ensures { result % 4 ≡ low_pair values.now index }
+/// The byte with these six high bits, and with the lowest two of the other number, swapped.
+fn byte_of(high: u8, low: u8) -> u8
+    requires high { high < 64 }
+    ensures { result ≡ 4 * high + swapped low }
 {
-    if index < LOW_VALUES {
-        values[index]
-    } else if index < 2 * LOW_VALUES {
-        values[index - LOW_VALUES] / 4
-    } else {
-        values[index - 2 * LOW_VALUES] / 16
-    }
+    4 * high + swapped(low)
 }
