@@ -8,7 +8,7 @@ use Rattle.std.proofs.lemmas.Nat.Bits.{bit_at-lt, bit_at-zero, bit_at_and, bit_a
 use Rattle.std.proofs.lemmas.Nat.{leading_top, shr_high}
 use Rattle.std.specs.Int.Count.{count_leading_zeros}
 use Rattle.cell_bits.specs.Word.{digit}
-use Rattle.cell_bits.specs.inside.Window.{cell_of_two, IsJoined, MeetsAt, AreCandidates, AreCellsOf, AreLeftOf, StandAt}
+use Rattle.cell_bits.specs.inside.Window.{cell_of_two, IsJoined, MeetsAt, AreCandidates, AreCellsOf, AreLeftOf, BeginsWithOnes, OnesStandAt, StandAt}
 use Rattle.cell_bits.proofs.Joining.{digit-shl}
 
 -- a test of a digit
@@ -26,6 +26,22 @@ from_no_digit value place e = let low : bit_at value place < 2 = bit_at-lt value
 
 pub digit-tested : (value place : ℕ) → (bit_and (value / 2 ^ place) 1 == 1) ≡ digit value place
 digit-tested value place = ap (λ bit. bit == 1) (shr_and_one value place)
+
+-- a bit that is not 0 is a one
+pub digit-shown : (value place : ℕ) → ¬ (bit_and (value / 2 ^ place) 1 ≡ 0) → digit value place ≡ true
+digit-shown value place some =
+    let bit : bit_at value place < 2 = bit_at-lt value place in
+    to_digit value place (omega (arith, some, shr_and_one value place))
+
+-- one more of the first cells is a one
+pub ones-more : (value count offset : ℕ) → ((i : ℕ) → i < offset → digit value (count - 1 - i) ≡ true)
+    → digit value (count - 1 - offset) ≡ true → (i : ℕ) → i < offset + 1 → digit value (count - 1 - i) ≡ true
+ones-more value count offset so_far here i few = elim (cases_lt i offset) [
+  | inl before ↦ so_far i before
+  | inr last ↦
+      let same : offset ≡ i = omega (arith, few, last) in
+      subst (λ (n : ℕ). digit value (count - 1 - n) ≡ true) same here
+]
 
 pub digit-not : (value place : ℕ) → value < 2 ^ 64 → place < 64 → (digit (bit_not w64 value) place ≡ true) ↔ (digit value place ≡ false)
 digit-not value place fits low =
@@ -46,6 +62,13 @@ digit-and a b place =
 
 pub zero-digit : (place : ℕ) → digit 0 place ≡ false
 zero-digit place = ap (λ bit. bit == 1) (bit_at-zero place)
+
+-- a cell of the first of two blocks, and one of the second
+in-first : (high low j : ℕ) → j < 64 → cell_of_two high low j ≡ digit high (63 - j)
+in-first high low j first = grind (arith, nat_tests)
+
+in-second : (high low j : ℕ) → 64 ≤ j → cell_of_two high low j ≡ digit low (127 - j)
+in-second high low j second = grind (arith, nat_tests)
 
 module _ (high low : ℕ) (offsets : List ℕ) (one : Bool) where
   -- one more of the rarer cells is looked at
@@ -92,6 +115,64 @@ pub word-nowhere : (high low word count : ℕ) (offsets : List ℕ) (many : ℕ)
 word-nowhere high low word count offsets many one cells nowhere k within = (
   λ yes. let no : digit 0 (63 - k) ≡ false = zero-digit (63 - k) in absurd cc,
   λ meets. absurd (nowhere k within (λ index less. meets (slice_index offsets index) (cells index less).0 ∙ (cells index less).1)),
+)
+
+-- where two ones stand so far apart, one is left
+pub apart-ones : (high low apart joint : ℕ) → apart < 64 → IsJoined high low apart joint → (j : ℕ) → j + apart < 128
+    → cell_of_two high low j ≡ true → cell_of_two high low (j + apart) ≡ true
+    → cell_of_two (bit_and high joint) (bit_and low (low * 2 ^ apart % 2 ^ 64)) j ≡ true
+apart-ones high low apart joint few joins j within one other = by_place (cases_lt j 64)
+  where
+    by_place : (j < 64) ⊎ (64 ≤ j) → cell_of_two (bit_and high joint) (bit_and low (low * 2 ^ apart % 2 ^ 64)) j ≡ true
+    by_place (inl first) =
+        let order : apart + j ≡ j + apart = omega arith in
+        let here : digit high (63 - j) ≡ true = sym (in-first high low j first) ∙ one in
+        let there : digit joint (63 - j) ≡ true = joins j first ∙ ap (cell_of_two high low) order ∙ other in
+        in-first (bit_and high joint) _ j first ∙ (digit-and high joint (63 - j)).1 (here, there)
+    by_place (inr second) =
+        let here : digit low (127 - j) ≡ true = sym (in-second high low j second) ∙ one in
+        let away : 127 - (j + apart) ≡ 127 - j - apart = omega arith in
+        let there : digit low (127 - j - apart) ≡ true =
+        ap (digit low) (sym away) ∙ sym (in-second high low (j + apart) (omega (arith, second))) ∙ other in
+        let moved : digit (low * 2 ^ apart % 2 ^ 64) (127 - j) ≡ true =
+        digit-shl low apart (127 - j) (omega (arith, second)) (omega (arith, within)) ∙ there in
+        in-second (bit_and high joint) _ j second ∙ (digit-and low (low * 2 ^ apart % 2 ^ 64) (127 - j)).1 (here, moved)
+
+module _ (high low pairs low_pairs fours low_fours eights low_eights : ℕ) where
+  -- with each step ones are left where twice as many stand
+  pub eights-none : eights ≡ 0
+      → ((j : ℕ) → j + 1 < 128 → cell_of_two high low j ≡ true → cell_of_two high low (j + 1) ≡ true → cell_of_two pairs low_pairs j ≡ true)
+      → ((j : ℕ) → j + 2 < 128 → cell_of_two pairs low_pairs j ≡ true → cell_of_two pairs low_pairs (j + 2) ≡ true → cell_of_two fours low_fours j ≡ true)
+      → ((j : ℕ) → j + 4 < 128 → cell_of_two fours low_fours j ≡ true → cell_of_two fours low_fours (j + 4) ≡ true → cell_of_two eights low_eights j ≡ true)
+      → (k : ℕ) → k < 64 → ¬ OnesStandAt high low 8 k
+  eights-none none to_pairs to_fours to_eights k within ones =
+      let yes : digit eights (63 - k) ≡ true = sym (in-first eights low_eights k within) ∙ eight in
+      let no : digit eights (63 - k) ≡ false = ap (λ (n : ℕ). digit n (63 - k)) none ∙ zero-digit (63 - k) in
+      cc
+    where
+      pair : (i : ℕ) → i + 1 < 8 → cell_of_two pairs low_pairs (k + i) ≡ true
+      pair i inside =
+          let next : k + (i + 1) ≡ k + i + 1 = omega arith in
+          to_pairs (k + i) (omega (arith, within, inside)) (ones i (omega (arith, inside)))
+          (ap (cell_of_two high low) (sym next) ∙ ones (i + 1) inside)
+
+      four : (i : ℕ) → i + 3 < 8 → cell_of_two fours low_fours (k + i) ≡ true
+      four i inside =
+          let next : k + (i + 2) ≡ k + i + 2 = omega arith in
+          to_fours (k + i) (omega (arith, within, inside)) (pair i (omega (arith, inside)))
+          (ap (cell_of_two pairs low_pairs) (sym next) ∙ pair (i + 2) (omega (arith, inside)))
+
+      eight : cell_of_two eights low_eights k ≡ true
+      eight =
+          let here : k + 0 ≡ k = omega arith in
+          to_eights k (omega (arith, within)) (ap (cell_of_two fours low_fours) (sym here) ∙ four 0 (omega arith)) (four 4 (omega arith))
+
+-- so a word that begins with them stands nowhere
+pub ones-nowhere : (high low word count : ℕ) → BeginsWithOnes word count → ((k : ℕ) → k < 64 → ¬ OnesStandAt high low 8 k)
+    → AreCandidates high low word count count 0
+ones-nowhere high low word count begins nowhere k within = (
+  λ yes. let no : digit 0 (63 - k) ≡ false = zero-digit (63 - k) in absurd cc,
+  λ meets. absurd (nowhere k within (λ i few. meets i (omega (arith, few, begins.0)) ∙ begins.1 i few)),
 )
 
 module _ (high low value count : ℕ) where

@@ -1,5 +1,5 @@
 -- 64 cells in one number, high bit first: what the calls that read look at.
-use Rattle.std.specs.Prelude.{◌≡◌, ℕ, ◌+◌, ◌-◌, ◌<◌, Bool, true, false, ◌↔◌, ◌*◌, List, get_or}
+use Rattle.std.specs.Prelude.{◌≡◌, ℕ, ◌+◌, ◌-◌, ◌<◌, ◌≤◌, Bool, true, false, ◌↔◌, ◌*◌, List, get_or}
 use Rattle.std.specs.Prelude.{nat_lt, slice_index, if◌then◌else◌}
 use Rattle.cell_bits.specs.Word.{digit}
 
@@ -43,6 +43,14 @@ AreLeftOf word count left one =
 abbrev pub StandAt : ℕ → ℕ → List ℕ → (many : ℕ) → Bool → ℕ → Type 0
 StandAt high low offsets many one k =
     (index : ℕ) → index < many → cell_of_two high low (k + slice_index offsets index) ≡ one
+
+-- the word begins with eight ones
+abbrev pub BeginsWithOnes : (word count : ℕ) → Type 0
+BeginsWithOnes word count = (8 ≤ count) × ((i : ℕ) → i < 8 → digit word (count - 1 - i) ≡ true)
+
+-- so many ones stand in a row from cell k of two blocks on
+abbrev pub OnesStandAt : ℕ → ℕ → (many : ℕ) → ℕ → Type 0
+OnesStandAt high low many k = (i : ℕ) → i < many → cell_of_two high low (k + i) ≡ true
 
 -- the block is what is left of another behind its first cells, so many of them
 abbrev pub IsRest : (low moved block : ℕ) → Type 0

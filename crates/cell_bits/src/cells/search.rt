@@ -1,7 +1,8 @@
-ghost use Rattle.std.specs.Prelude.{◌≡◌, ℕ, ◌-◌, ◌<◌, ◌≤◌, length, ◌↔◌, slice_index, true, IsTrue};
+ghost use Rattle.std.specs.Prelude.{◌≡◌, ℕ, ◌+◌, ◌-◌, ◌<◌, ◌≤◌, length, ◌↔◌, slice_index, true, IsTrue};
 ghost use Rattle.cell_bits.specs.Search.{IsFirstWord, IsFirstOne};
 ghost use Rattle.cell_bits.specs.Word.{digit};
-ghost use Rattle.cell_bits.specs.inside.Window.{AreCandidates, AreCellsOf, FoursHaveOnes, StandAt};
+ghost use Rattle.cell_bits.specs.inside.Window.{AreCandidates, AreCellsOf, BeginsWithOnes, FoursHaveOnes, OnesStandAt};
+ghost use Rattle.cell_bits.specs.inside.Window.{StandAt, cell_of_two};
 ghost use Rattle.cell_bits.specs.Broken.{Unbroken};
 
 use super::{Cells, joined};
@@ -114,6 +115,9 @@ pub struct Rarer {
     pub offsets: [u8; 32],
     /// How many they are.
     pub many: usize,
+    /// Whether the word begins with eight ones, as a sync of group codes does. Recorded cells seldom have so many in a
+    /// row.
+    pub eight_ones: bool,
 }
 
 impl Rarer {
@@ -124,7 +128,9 @@ impl Rarer {
         requires most { count ≤ 32 }
         ensures many { result.many ≤ 32 }
         ensures cells { AreCellsOf word count result.offsets result.many result.one }
+        ensures eight { IsTrue result.eight_ones → BeginsWithOnes word count }
     {
+        let eight_ones = begins_with_ones(word, count);
         let above = 32 - count as u32;
         let ones = (word << above).count_ones();
         let zeros = (!word << above).count_ones();
@@ -132,7 +138,12 @@ impl Rarer {
         let mut offsets = [0; 32];
         let mut many = 0;
         if ones < FEW || zeros < FEW || places < SHORT {
-            return Rarer { one, offsets, many };
+            return Rarer {
+                one,
+                offsets,
+                many,
+                eight_ones,
+            };
         }
         // From the high bit on: ones for the cells that are not gathered yet.
         let mut left = equal_cells((word as u64) << (64 - count as u32), one);
@@ -145,7 +156,12 @@ impl Rarer {
             many += 1;
             left &= u64::MAX >> (offset as u32 + 1);
         }
-        Rarer { one, offsets, many }
+        Rarer {
+            one,
+            offsets,
+            many,
+            eight_ones,
+        }
     }
 
     /// Whether they stand from no place of the first of two blocks on.
@@ -166,6 +182,42 @@ impl Rarer {
     }
 }
 
+/// Whether the low `count` bits of a word, 1 to 32, begin with eight ones.
+fn begins_with_ones(word: u32, count: u8) -> bool
+    requires most { count ≤ 32 }
+    ensures { IsTrue result → BeginsWithOnes word count }
+{
+    if count < 8 {
+        return false;
+    }
+    for offset in 0..8 {
+        if (word >> (count as u32 - 1 - offset)) & 1 == 0 {
+            return false;
+        }
+    }
+    true
+}
+
+/// Whether eight ones in a row stand from no place of the first of two blocks on: with each step ones are left where
+/// twice as many stand.
+fn eight_ones_stand_nowhere(high: u64, low: u64) -> bool
+    ensures { IsTrue result → (k : ℕ) → k < 64 → ¬ OnesStandAt high low 8 k }
+{
+    let (pairs, low_pairs) = ones_apart(high, low, 1);
+    let (fours, low_fours) = ones_apart(pairs, low_pairs, 2);
+    let (eights, _) = ones_apart(fours, low_fours, 4);
+    eights == 0
+}
+
+/// Two blocks, with a one at each place where these have one, and another so far behind it.
+fn ones_apart(high: u64, low: u64, apart: u32) -> (u64, u64)
+    requires { apart < 64 }
+    ensures { (j : ℕ) → j + apart < 128 → cell_of_two high low j ≡ true → cell_of_two high low (j + apart) ≡ true
+        → cell_of_two result.0 result.1 j ≡ true }
+{
+    (high & joined(high, low, apart), low & (low << apart))
+}
+
 /// The places of the first of two blocks from which the low `count` bits of the word stand, 1 to 32, high bit first: a
 /// bit each, high bit first. The rarer cells of the word tell nearly always that there are none.
 fn places_of(high: u64, low: u64, word: u32, count: u8, rarer: &Rarer) -> u64
@@ -173,9 +225,13 @@ fn places_of(high: u64, low: u64, word: u32, count: u8, rarer: &Rarer) -> u64
     requires most { count ≤ 32 }
     requires many { rarer.now.many ≤ 32 }
     requires cells { AreCellsOf word count rarer.now.offsets rarer.now.many rarer.now.one }
+    requires eight { IsTrue rarer.now.eight_ones → BeginsWithOnes word count }
     ensures { AreCandidates high low word count count result }
 {
     if rarer.stand_nowhere(high, low) {
+        return 0;
+    }
+    if rarer.eight_ones && eight_ones_stand_nowhere(high, low) {
         return 0;
     }
     candidates(high, low, word, count)
