@@ -2,7 +2,8 @@ ghost use Rattle.std.specs.Prelude.{◌≡◌, ℕ, [], Option, Some, None, is_e
 ghost use Rattle.std.specs.Option.{is_some};
 ghost use Rattle.flux_base.specs.Counts.{Counts, counts_of};
 ghost use Rattle.track_shelf.specs.Files.{file_at};
-ghost use Rattle.file_maker.specs.Made.{IsNew, Made, TakesOver, made_close, made_folder, made_open, no_faults, path_in};
+ghost use Rattle.file_maker.specs.Made.{IsNew, Made, TakesOver, has_folder, made_close, made_folder, made_open, no_faults};
+ghost use Rattle.file_maker.specs.Made.{path_in};
 
 use flux_base::{Failed, Sink};
 
@@ -24,6 +25,11 @@ pub trait FileMaker {
     fn make_folder(&mut self, folder: &[u8]) -> Result<(), Failed>
         ensures made { made self.new ≡ option_map (made_folder folder.now result) (made self.old) }
         ensures counts { Counts (is_err result) (counts_of faults failed self.old) (counts_of faults failed self.new) };
+
+    /// Whether this folder is there, or whatever else lies at its path. Nothing fails: what cannot be looked at is not
+    /// there, and fails as it is made.
+    fn has_folder(&self, folder: &[u8]) -> bool
+        ensures { (told : Made) → made self.now ≡ Some told → result ≡ has_folder folder.now told.folders };
 
     /// Whether a file of this name is in the folder. Nothing fails: what cannot be looked at is not
     /// there, and fails as it is made.

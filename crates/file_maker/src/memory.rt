@@ -303,6 +303,10 @@ impl<'a> FileMaker for MemoryMaker<'a> {
         answer
     }
 
+    fn has_folder(&self, folder: &[u8]) -> bool {
+        is_folder(&self.folders, folder)
+    }
+
     fn has_file(&self, folder: &[u8], name: &str) -> bool {
         is_among(&self.files, folder, name)
     }

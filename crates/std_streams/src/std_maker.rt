@@ -11,9 +11,9 @@ use std::io::ErrorKind;
 use std::rt::Files;
 
 /// The system as a maker of files. No memory is taken. Each error of std is counted as a fault, save where it is only
-/// looked whether a file is there; so is a folder's name that is no text, and a path of more than 4096 bytes. A file is
-/// made only where nothing lies at its path, not even a link that leads nowhere. The system says no error as a file is
-/// closed. It tells nothing of what it makes.
+/// looked whether a file or folder is there; so is a folder's name that is no text, and a path of more than 4096 bytes.
+/// A file is made only where nothing lies at its path, not even a link that leads nowhere. The system says no error as a
+/// file is closed. It tells nothing of what it makes.
 #[derive(Drop)]
 pub struct StdMaker<'a, R: Files> {
     files: &'a R,
@@ -74,6 +74,13 @@ impl<'a, R: Files> FileMaker for StdMaker<'a, R> {
                 Err(failed)
             }
         }
+    }
+
+    fn has_folder(&self, folder: &[u8]) -> bool {
+        let Some(path) = folder_path(folder) else {
+            return false;
+        };
+        fs::symlink_metadata(self.files, path.as_str()).is_ok()
     }
 
     fn has_file(&self, folder: &[u8], name: &str) -> bool {
