@@ -29,3 +29,4 @@ pub mod RingLaws
 pub mod Filling
 pub mod Needed
 pub mod FormatBooks
+mod CellSlots

@@ -27,3 +27,4 @@ pub mod PlanLaws
 pub mod lemmas
 pub mod Names
 pub mod Tallies
+pub mod SharedCells

@@ -1,16 +1,13 @@
 -- What one stream comes to as a track, in numbers: as controllers read, by the clock that follows
 -- the drive.
-use Rattle.std.specs.Prelude.{◌≡◌, ◌≤◌, ℕ, Bool, List, map, Option, Some, None}
+use Rattle.std.specs.Prelude.{◌≡◌, ◌≤◌, List, map}
 use Rattle.flux_base.specs.declared.track.TrackId.{TrackId}
-use Rattle.phase_loop.specs.Rows.{recovered}
-use Rattle.phase_loop.specs.declared.start.LoopStart.{LoopStart}
 use Rattle.sector_images.specs.declared.format.Format.{Format}
 use Rattle.turn_merge.specs.Others.{NotedOther, has_untold, others_over}
 use Rattle.turn_merge.specs.Readings.{NotedReading, verdict}
 use Rattle.flux_engine.specs.Captured.{AreNamesOf, AreOthersOf, AreReadingsOf}
 use Rattle.flux_engine.specs.Counts.{names_of, whole_names_of}
 use Rattle.flux_engine.specs.Disks.{no_totals}
-use Rattle.flux_engine.specs.Gathering.{AreCellsOf}
 use Rattle.flux_engine.specs.Plans.{Seen}
 use Rattle.flux_engine.specs.Recordings.{sectors_of}
 use Rattle.flux_engine.specs.Tracks.{numbers, totals_of}
@@ -52,8 +49,3 @@ pub record IsFewTally (tally : TrackTally) : Type 0 where
   pub sectors : tally.sectors.sectors ≤ 100
   pub others : tally.others ≤ 65
   pub whole : tally.whole ≤ 65
-
--- cells that were recovered of these transitions from where a clock started, if it did
-abbrev pub HoldsCells : (start : Option LoopStart) → (times : List ℕ) → (cells : List Bool) → Type 0
-HoldsCells None times cells = Unit {0}
-HoldsCells (Some start) times cells = (cells ≡ recovered start times) × AreCellsOf times cells

@@ -384,7 +384,7 @@ pub(crate) fn recover_from(
 )
     requires start { IsStart start }
     requires bounded { IsBounded flux.now }
-    requires room { MOST_CELLS ≤ room cells.old }
+    requires room { 32 * length flux.now.times ≤ room cells.old }
     ensures cells { cells.new.cells ≡ recovered start flux.now.times }
     ensures are { AreCellsOf flux.now.times cells.new.cells }
     ensures room { room cells.old ≤ room cells.new }

@@ -22,6 +22,7 @@ mod plan;
 mod planned;
 mod ring_making;
 mod room;
+mod shared_cells;
 mod shared_stream;
 mod told_names;
 mod track_captures;

@@ -1,56 +1,44 @@
 //! One stream that is read as a track of many disks.
 
 ghost use Rattle.std.specs.Prelude.{◌≡◌, ◌≤◌, ◌<◌, ◌+◌};
-ghost use Rattle.cell_bits.specs.State.{room};
 ghost use Rattle.sector_images.specs.Places.{IsTrack};
 ghost use Rattle.sector_report.specs.declared.dump_lines.Passed.{Passed as OfPassed};
 ghost use Rattle.turn_merge.specs.Book.{MOST_NOTES};
 ghost use Rattle.turn_merge.specs.declared.clock.Clock.TheVariants.{Following};
-ghost use Rattle.flux_engine.specs.Gathering.{AreCellsOf, HasNotedBy};
+ghost use Rattle.flux_engine.specs.Gathering.{HasNotedBy};
 ghost use Rattle.flux_engine.specs.LoopProgress.{IsBoundedNext, seen_next};
 ghost use Rattle.flux_engine.specs.Names.{HasNamesOf};
-ghost use Rattle.flux_engine.specs.Reading.{IsBounded};
-ghost use Rattle.flux_engine.specs.Recordings.{cells_by, sectors_of as sectors_in};
-ghost use Rattle.flux_engine.specs.Room.{IsBookOf, MOST_CELLS, MOST_READINGS};
-ghost use Rattle.flux_engine.specs.Tallies.{HoldsCells};
+ghost use Rattle.flux_engine.specs.Recordings.{sectors_of as sectors_in};
+ghost use Rattle.flux_engine.specs.Room.{IsBookOf, MOST_READINGS};
+ghost use Rattle.flux_engine.specs.SharedCells.{AreKept};
 ghost use Rattle.flux_engine.specs.Writing.{Knows};
 ghost use Rattle.flux_engine.specs.declared.plan.Clocks.TheVariants.{FollowingAlone};
 ghost use Rattle.flux_engine.specs.declared.plan.Rule.TheVariants.{Controller};
 
-use crate::capture::{clock_start, note_in_cells, recover_from};
+use crate::capture::note_in_cells;
 use crate::cell_reader::CellReader;
 use crate::gathered_track::Gathered;
 use crate::names::{NamedStreams, names_in_cells};
 use crate::plan::Rule;
-use crate::room::MOST_CELLS;
+use crate::shared_cells::SharedCells;
 use crate::track_streams::NextStream;
 use crate::track_tally::{TrackTally, count_verdicts, tally_of};
 use crate::writing::no_totals;
-use cell_bits::Cells;
 use disk_recordings::{headers_have_names, sectors_of, tracks_have_only_own};
 use flux_base::{Memory, TrackId};
 use index_turns::TrackFlux;
 use kryo_stream::StreamRoom;
-use phase_loop::{Loop, LoopStart};
 use sector_images::{Format, tracks_keep_bounds};
 use sector_report::Passed;
 use std::alloc::Global;
 use std::marker::Model;
 use turn_merge::{Clock, Others};
 
-/// The cells that a clock recovered of a stream.
-#[derive(Drop)]
-pub(crate) struct SharedCells {
-    pub clock: Loop,
-    pub cells: Cells,
-    /// Where the clock started, if these are cells of the stream that is read now.
-    pub start: Option<LoopStart>,
-}
-
 /// A stream that is read as a track of many disks, by the clock that follows the drive and as controllers read: its
-/// transitions are taken once, and its cells are recovered once for disks one after another whose clocks start alike.
+/// transitions are taken once, and its cells are recovered once for all disks whose clocks start alike. Of a stream of
+/// more than 500000 transitions only those of the last start are kept.
 ///
-/// It takes 86 MiB. Contracts see what the stream says.
+/// It takes 104 MiB. Contracts see what the stream says.
 #[derive(Drop)]
 pub struct SharedStream {
     stream: StreamRoom,
@@ -59,20 +47,16 @@ pub struct SharedStream {
 }
 
 impl Model for SharedStream {
-    ghost use Rattle.std.specs.Prelude.{◌≤◌};
-    ghost use Rattle.cell_bits.specs.State.{room};
     ghost use Rattle.flux_engine.specs.LoopProgress.{IsBoundedNext, seen_next};
     ghost use Rattle.flux_engine.specs.Plans.{Seen};
-    ghost use Rattle.flux_engine.specs.Room.{MOST_CELLS};
-    ghost use Rattle.flux_engine.specs.Tallies.{HoldsCells};
+    ghost use Rattle.flux_engine.specs.SharedCells.{AreKept};
 
     ghost Value = { Seen };
 
     ghost view = { λ a. seen_next a.next a.stream.flux };
 
     ghost invariant = { λ a. IsBoundedNext a.next a.stream.flux
-        × (MOST_CELLS ≤ room a.recovered.cells)
-        × HoldsCells a.recovered.start a.stream.flux.times a.recovered.cells.cells };
+        × AreKept a.recovered.used a.recovered.slots.items a.stream.flux.times };
 }
 
 impl SharedStream {
@@ -83,17 +67,11 @@ impl SharedStream {
     /// Takes all memory that reading any stream needs. At first there is none.
     pub fn reserve(alloc: Global) -> Result<SharedStream, Memory> {
         let stream = StreamRoom::reserve(alloc)?;
-        let clock = Loop::new(alloc)?;
-        let mut cells = Cells::new(alloc);
-        cells.reserve(MOST_CELLS)?;
+        let recovered = SharedCells::reserve(alloc)?;
         Ok(SharedStream {
             stream,
             next: NextStream::PassedOver(Passed::Absent),
-            recovered: SharedCells {
-                clock,
-                cells,
-                start: None,
-            },
+            recovered,
         })
     }
 
@@ -109,7 +87,7 @@ impl SharedStream {
         ensures gave { T.gave streams.now source.old source.new track capture self.new }
         ensures whole { self.new.fault ≡ None }
     {
-        self.recovered.start = None;
+        self.recovered.forget();
         self.next = streams.stream_of(track, capture, source, &mut self.stream);
     }
 
@@ -139,8 +117,8 @@ impl SharedStream {
     {
         match self.next {
             NextStream::Read => {
-                recover_shared(format, track, self.stream.flux(), &mut self.recovered);
-                Some(reader.read(self.stream.flux(), &self.recovered.cells))
+                let slot = self.recovered.recover(format, track, self.stream.flux());
+                Some(reader.read(self.stream.flux(), self.recovered.cells(slot)))
             }
             NextStream::PassedOver(_) => None,
         }
@@ -213,8 +191,7 @@ fn note_shared(
 )
     requires track { IsTrack format track }
     requires bounded { IsBoundedNext next flux.now }
-    requires room { MOST_CELLS ≤ room shared.old.cells }
-    requires holds { HoldsCells shared.old.start flux.now.times shared.old.cells.cells }
+    requires kept { AreKept shared.old.used shared.old.slots.items flux.now.times }
     requires book { IsBookOf format gathered.old.book }
     requires knows { Knows (sectors_in format track) gathered.old.book }
     requires few { gathered.old.book.notes + MOST_READINGS ≤ MOST_NOTES }
@@ -222,8 +199,7 @@ fn note_shared(
     ensures noted { HasNotedBy Controller FollowingAlone format track (seen_next next flux.now).times
         (seen_next next flux.now).indexes 0 gathered.old.book gathered.new.book gathered.old.others
         gathered.new.others }
-    ensures room { MOST_CELLS ≤ room shared.new.cells }
-    ensures holds { HoldsCells shared.new.start flux.now.times shared.new.cells.cells }
+    ensures kept { AreKept shared.new.used shared.new.slots.items flux.now.times }
     ensures book { IsBookOf format gathered.new.book }
 {
     // In no cells nothing stands.
@@ -231,7 +207,7 @@ fn note_shared(
     headers_have_names();
     match next {
         NextStream::Read => {
-            recover_shared(format, track, flux, shared);
+            let slot = shared.recover(format, track, flux);
             note_in_cells(
                 Rule::Controller,
                 Clock::Following,
@@ -239,7 +215,7 @@ fn note_shared(
                 track,
                 0,
                 flux,
-                &shared.cells,
+                shared.cells(slot),
                 gathered,
             );
         }
@@ -258,49 +234,27 @@ fn names_shared(
 )
     requires track { IsTrack format near }
     requires bounded { IsBoundedNext next flux.now }
-    requires room { MOST_CELLS ≤ room shared.old.cells }
-    requires holds { HoldsCells shared.old.start flux.now.times shared.old.cells.cells }
+    requires kept { AreKept shared.old.used shared.old.slots.items flux.now.times }
     requires few_others { others.old.notes + MOST_READINGS ≤ MOST_NOTES }
     ensures noted { HasNamesOf FollowingAlone format near (seen_next next flux.now).times
         (seen_next next flux.now).indexes 0 others.old others.new }
-    ensures room { MOST_CELLS ≤ room shared.new.cells }
-    ensures holds { HoldsCells shared.new.start flux.now.times shared.new.cells.cells }
+    ensures kept { AreKept shared.new.used shared.new.slots.items flux.now.times }
 {
     // In no cells nothing stands.
     headers_have_names();
     match next {
         NextStream::Read => {
-            recover_shared(format, near, flux, shared);
+            let slot = shared.recover(format, near, flux);
             names_in_cells(
                 Clock::Following,
                 format,
                 near,
                 0,
                 flux,
-                &shared.cells,
+                shared.cells(slot),
                 others,
             );
         }
         NextStream::PassedOver(_) => {}
     }
-}
-
-/// Recovers the cells of a track, unless those that are there are the same.
-fn recover_shared(format: Format, track: TrackId, flux: &TrackFlux, shared: &mut SharedCells)
-    requires track { IsTrack format track }
-    requires bounded { IsBounded flux.now }
-    requires room { MOST_CELLS ≤ room shared.old.cells }
-    requires holds { HoldsCells shared.old.start flux.now.times shared.old.cells.cells }
-    ensures cells { shared.new.cells.cells
-        ≡ cells_by Following format track flux.now.times flux.now.indexes }
-    ensures are { AreCellsOf flux.now.times shared.new.cells.cells }
-    ensures room { MOST_CELLS ≤ room shared.new.cells }
-    ensures holds { HoldsCells shared.new.start flux.now.times shared.new.cells.cells }
-{
-    let start = clock_start(Clock::Following, format, track, flux);
-    if shared.start == Some(start) {
-        return;
-    }
-    recover_from(start, flux, &mut shared.clock, &mut shared.cells);
-    shared.start = Some(start);
 }

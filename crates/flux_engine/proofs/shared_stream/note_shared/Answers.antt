@@ -1,8 +1,10 @@
 use Rattle.std.proofs.Common.{[], refl}
+use Rattle.flux_engine.specs.Recordings.{start_of}
 use Rattle.flux_engine.specs.declared.plan.Clocks.TheVariants.{FollowingAlone}
 use Rattle.flux_engine.specs.declared.plan.Rule.TheVariants.{Controller}
 use Rattle.flux_engine.proofs.Noting.{noted_alone}
 use Rattle.flux_engine.proofs.PassedStreams.{noted_passed}
+use Rattle.flux_engine.proofs.CellSlots.{in-slot}
 use Rattle.flux_engine.proofs.shared_stream.note_shared.Goals as goal
 
 pub returns-in-Read-clause-noted : goal.returns-in-Read-clause-noted
@@ -27,3 +29,11 @@ returns-in-PassedOver-clause-noted c =
       others_noted = none.others_noted;
       few_others = none.few_others;
     })
+
+pub note_in_cells-requires-clause-cells : goal.note_in_cells-requires-clause-cells
+note_in_cells-requires-clause-cells c =
+    (in-slot c.recover-slot.new.self.slots.items c.recover-slot.result (start_of c.args.format c.args.track c.args.flux.now.indexes) c.args.flux.now.times c.cells.result.now c.recover-slot.ensures.slot c.cells.ensures).0
+
+pub note_in_cells-requires-clause-are : goal.note_in_cells-requires-clause-are
+note_in_cells-requires-clause-are c =
+    (in-slot c.recover-slot.new.self.slots.items c.recover-slot.result (start_of c.args.format c.args.track c.args.flux.now.indexes) c.args.flux.now.times c.cells.result.now c.recover-slot.ensures.slot c.cells.ensures).1
