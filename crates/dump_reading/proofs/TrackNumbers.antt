@@ -158,13 +158,6 @@ none-is format track n all none = by (is_track format track) refl
     by false same = refl
     by true same = (let at = number-of format track (track-is-one format track same) in absurd (none at.0 (omega (arith, at.1, all)) at.2))
 
-pub near-is : (format : Format) (track last near : TrackId) (n : ℕ) → slice_get (tracks format) (length (tracks format) - 1) ≡ Some last → IsTrack format last
-    → near ≡ record { cylinder = min track.cylinder last.cylinder; head = min track.head last.head } → slice_get (tracks format) n ≡ Some near
-    → track_at format n ≡ near_track format track
-near-is format track last near n at_last is near_is at =
-    let same = last-track format last at_last is in
-    track-is format n near at ∙ near_is ∙ ap (λ (t : TrackId). record { cylinder = min track.cylinder t.cylinder; head = min track.head t.head }) same
-
 -- there are at most two hundred
 pub tracks-few : (format : Format) → TracksKeepBounds → 0 < length (tracks format) → length (tracks format) ≤ 200
 tracks-few format bounds some = by (in-order format)

@@ -10,7 +10,8 @@ ghost use Rattle.flux_base.specs.World.{sink_at, sink_counts};
 ghost use Rattle.flux_engine.specs.Counts.{AreCountsBelow};
 ghost use Rattle.flux_engine.specs.Plans.{Seen};
 ghost use Rattle.flux_engine.specs.Recordings.{track_at};
-ghost use Rattle.sector_images.specs.Places.{tracks};
+ghost use Rattle.sector_images.specs.Formats.{row};
+ghost use Rattle.sector_images.specs.Places.{IsTrack, tracks};
 ghost use Rattle.turn_merge.specs.Others.{NotedOther, OthersStandFor};
 ghost use Rattle.dump_reading.specs.Beside.{LinesOf, beside_lines, is_track, most_cylinders, near_track, no_lines};
 ghost use Rattle.dump_reading.specs.Beside.{of_tracks};
@@ -219,21 +220,43 @@ pub fn number_of(format: Format, track: TrackId) -> Option<u32>
     None
 }
 
-/// The number of the format's nearest track: of the same cylinder or of the last one, on the same head or on the last
-/// one. (In either order the last track has the last cylinder and the last head.)
+/// The number of the format's nearest track.
 pub fn near_number(format: Format, track: TrackId) -> u32
     ensures low { result < length (tracks format) }
     ensures near { track_at format result ≡ near_track format track }
 {
-    tracks_keep_bounds();
-    let last = track_id(format, track_count(format) - 1);
-    let near = TrackId {
-        cylinder: track.cylinder.min(last.cylinder),
-        head: track.head.min(last.head),
-    };
-    match number_of(format, near) {
+    match number_of(format, near_track(format, track)) {
         Some(number) => number,
         // It is one of the format's.
         None => unreachable!(),
     }
+}
+
+/// The format's nearest track: of the same cylinder or of the last one, on the same head or on the last one.
+pub fn near_track(format: Format, track: TrackId) -> TrackId
+    ensures near { result ≡ near_track format track }
+    ensures track { IsTrack format result }
+{
+    let last = last_track(format);
+    TrackId {
+        cylinder: track.cylinder.min(last.cylinder),
+        head: track.head.min(last.head),
+    }
+}
+
+/// Whether a track is one of the format's.
+pub fn has_track(format: Format, track: TrackId) -> bool
+    ensures { result ≡ is_track format track }
+{
+    let last = last_track(format);
+    track.cylinder <= last.cylinder && track.head <= last.head
+}
+
+/// The last track, of the last cylinder and on the last head in either order.
+fn last_track(format: Format) -> TrackId
+    ensures cylinder { result.cylinder + 1 ≡ (row format).cylinders }
+    ensures head { result.head + 1 ≡ (row format).heads }
+{
+    tracks_keep_bounds();
+    track_id(format, track_count(format) - 1)
 }

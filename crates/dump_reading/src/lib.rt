@@ -12,7 +12,7 @@ mod reading;
 mod report;
 mod totals;
 
-pub use beside::{BesideWriter, Unsaid, most_cylinders, near_number, number_of};
+pub use beside::{BesideWriter, Unsaid, has_track, most_cylinders, near_track};
 pub use dumps::Dumps;
 pub use fault::NoFiles;
 pub use looking::find_empty;

@@ -1,4 +1,3 @@
 pub mod Lying
 pub mod SumSteps
 pub mod DiskNumbers
-pub mod NotedFiles

@@ -1,3 +1,2 @@
 -- What the crate's own functions say to one another: no public contract cites it.
 pub mod Sums
-pub mod Steps

@@ -7,10 +7,10 @@ ghost use Rattle.dump_tallies.specs.Tallies.{IsFileTally, IsTallyAs};
 
 use crate::files::{MOST_FILES, disk_track};
 use crate::tally_room::TallyRoom;
-use dump_reading::{near_number, number_of};
+use dump_reading::{has_track, near_track};
 use flux_base::{Memory, TrackId};
 use flux_engine::{Gathered, SharedStream, TrackTally, format_gathered, sectors_of};
-use sector_images::{Format, nominal, ring_cells, track_id, tracks_keep_bounds};
+use sector_images::{Format, track_id, tracks_keep_bounds};
 use sector_report::Totals;
 use std::alloc::Global;
 use std::marker::Model;
@@ -100,13 +100,6 @@ impl DiskTally {
         self.format
     }
 
-    /// How many files came.
-    pub(crate) fn count(&self) -> usize
-        ensures { result ≡ length self.now.tallies }
-    {
-        self.tallies.len()
-    }
-
     /// Notes what the next file comes to, which is named by this track, and of which this stream came.
     pub(crate) fn note(&mut self, file: TrackId, stream: &mut SharedStream)
         requires { length self.old.tallies < 200 }
@@ -115,18 +108,6 @@ impl DiskTally {
     {
         let tally = tally_file(self.stepping, self.format, file, stream, &mut self.gathered);
         self.tallies.push_reserved(tally);
-    }
-
-    /// The nominal cell of the track as which a file is read, and the cells of its ring: where both are the same, so is
-    /// the clock's start. None where it is read as no track.
-    pub(crate) fn clock(&self, file: TrackId) -> Option<(u32, u32)> {
-        match disk_track(self.stepping, file) {
-            Some(track) => {
-                let near = track_id(self.format, near_number(self.format, track));
-                Some((nominal(self.format, near), ring_cells(self.format, near)))
-            }
-            None => None,
-        }
     }
 }
 
@@ -176,11 +157,9 @@ fn tally_as(
     ensures stream { stream.new ≡ stream.old }
     ensures book { IsBookOf format gathered.new.book }
 {
-    tracks_keep_bounds();
-    if number_of(format, track).is_some() {
+    if has_track(format, track) {
         stream.tally_track(format, track, gathered)
     } else {
-        let near = track_id(format, near_number(format, track));
-        stream.tally_names(format, near, gathered)
+        stream.tally_names(format, near_track(format, track), gathered)
     }
 }

@@ -17,7 +17,7 @@ ghost use Rattle.dump_tallies.specs.inside.Sums.{AreFewNumbers, beside_among, ow
 
 use crate::disk_tally::DiskTally;
 use crate::files::file_number;
-use dump_reading::{DumpTotals, Looks, most_cylinders, number_of};
+use dump_reading::{DumpTotals, Looks, has_track, most_cylinders};
 use flux_base::TrackId;
 use flux_engine::{add_totals, no_totals};
 use sector_images::{sectors_lie_in_images, track_count, track_id, tracks_keep_bounds};
@@ -116,7 +116,7 @@ impl DiskTally {
             ≡ with_beside self.now passed.now (beside_among self.now.format (before ++ track ∷ [])) own }
         ensures few { (n : ℕ) → AreFewNumbers n totals.old → AreFewNumbers (n + 1) totals.new }
     {
-        if number_of(self.format, track).is_none() {
+        if !has_track(self.format, track) {
             self.add_one_beside(track, passed, totals);
         }
     }
