@@ -331,11 +331,11 @@ class Table:
         self.rows, self.wrong, self.worst, self.peak = 0, 0, 0, 0
         print(f"{'command':22} {'input':38} {'small':>9} {'large':>9} {'ratio':>6} {'MiB':>6}")
 
-    def row(self, words, name, small, large, most=4.4, other=None, dumps=0, beside=(), made=False):
+    def row(self, words, name, small, large, most=4.4, other=None, dumps=0, beside=(), made=False, ending="00.0.raw"):
         """A row: the command over the small input and over the large one, or another command over the large one. The input is the file of
-        the first track in so many dumps, and those of further tracks beside it, or what is read where there are none. It may be made files of."""
+        the first track in so many dumps, and those of further tracks beside it, or an SCP file, by the ending of its name; or what is read where there are none. It may be made files of."""
         with tempfile.TemporaryDirectory(dir=self.work) as folder:
-            inputs = Path(folder, "small00.0.raw"), Path(folder, "large00.0.raw")
+            inputs = Path(folder, f"small{ending}"), Path(folder, f"large{ending}")
             runs = [[self.program, *wanted, *dumps * [str(path)], *made * [f"{path}-tracks"]] for wanted, path in zip((words, other or words), inputs)]
             for path, data in zip(inputs, (small, large)):
                 for track in ("00.0", *beside):
@@ -403,6 +403,10 @@ def measured(table, wanted):
     if "unpack" in wanted:
         for name, count, revolutions in SCP_FILES:
             table.row(["unpack"], name, *(scp_of(size, count, revolutions) for size in SIZES), dumps=1, made=True)
+    # (Of many tracks the heads are half of the small file, and entries alone take time in `imd`.)
+    for words, files in (["read", "ibm-720"], SCP_FILES), (["info"], SCP_FILES), (["imd"], SCP_FILES[:3]):
+        for name, count, revolutions in files if words[0] in wanted else []:
+            table.row(words, f"SCP, {name}", *(scp_of(size, count, revolutions) for size in SIZES), dumps=1, ending=".scp")
     if "show" in wanted:
         for form in (FORMATS[name] for name in USED):
             for name, make in [CONTENTS] + RETRIED + TRACKS[:4]:

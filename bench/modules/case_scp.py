@@ -1,9 +1,16 @@
-"""Cases for compare.py of SCP files: of some tracks, whole or with faults, in a few of all forms."""
+"""Cases for compare.py of SCP files: of some tracks, whole or with faults, in a few of all forms; and dumps of files that are one in their place."""
+import pathlib
+import re
 import struct
+import sys
 
 from case_files import folder_name, most_bytes, what_lies
 from case_streams import one_in
 from plain_files import Outside
+from plain_streams import Refused, file_stream
+
+sys.path.insert(0, str(pathlib.Path(__file__).resolve().parents[2] / "samples"))
+import scp                                                # noqa: E402
 
 TRACKS = [divmod(number, 2) for number in range(168)]
 
@@ -69,3 +76,50 @@ def case_unpack(chance, kinds, built):
         words = chance.choice([words[:2], [*words, b"made"], [b"unpack", b"", folder], [b"unpack", b"disk.scp", b""],
                                [b"unpack", b"disk.scp", b"side 00.0.raw"], [b"unpack", b"other.scp", folder]])
     return words, Outside(b"", files, most_bytes(chance, kinds))
+
+
+TRACK_FILE = re.compile(rb"(.+?)/*/track(\d\d)\.([01])\.raw", re.DOTALL)
+
+
+def track_of(chance, kinds, number, content, turns, resolution):
+    """The bytes of a track that has the times of a file's stream, where it has one."""
+    try:
+        return scp.track(number, file_stream(content), turns, resolution)
+    except (Refused, struct.error):      # no stream, or revolutions that are too long for the file
+        return few_track(chance, kinds, number, turns)
+
+
+def packed(chance, kinds, files):
+    """An SCP file of the files of a dump's tracks, by their numbers."""
+    turns, resolution = chance.choice([1, 2, 2, 3]), chance.choice([0, 0, 0, 1])
+    offsets, body = [0] * 168, b""
+    for number, content in sorted(files.items()):
+        if number < 168 and content is not None:
+            offsets[number] = 688 + len(body)
+            body += track_of(chance, kinds, number, content, turns, resolution)
+    head = bytearray(b"SCP" + bytes([0x24, 0x80, turns, 0, 167, 1, 0, 0, resolution]))
+    if one_in(chance, 12):
+        kinds.add("an SCP file that is refused")
+        head[chance.choice([0, 8, 9])] = 0x40
+    file = bytes(head) + bytes(4) + struct.pack("<168I", *offsets) + body
+    if one_in(chance, 10):
+        kinds.add("an SCP file that ends early")
+        return file[: chance.choice([chance.randrange(16), chance.randrange(len(file))])]
+    return file
+
+
+def in_scp_files(case):
+    """The same case, in some of which a dump that is a folder is an SCP file."""
+    def made(chance, kinds, built):
+        words, files = case(chance, kinds, built)
+        for word in sorted(set(words)) if one_in(chance, 3) else []:
+            names = {path: TRACK_FILE.fullmatch(path) for path in files}
+            own = {path: name for path, name in names.items() if name and name[1] == word.rstrip(b"/")}
+            if own:
+                kinds.add("a dump that is an SCP file")
+                name = word.rstrip(b"/") + chance.choice([b".scp", b".scp", b".SCP", b".sCp"])
+                content = packed(chance, kinds, {2 * int(at[2]) + int(at[3]): files[path] for path, at in own.items()})
+                files = {path: bytes for path, bytes in files.items() if path not in own} | ({name: content} if not one_in(chance, 20) else {})
+                words = [name if other == word else other for other in words]
+        return words, files
+    return made

@@ -6,7 +6,7 @@ import plain_commands
 from case_dumps import case_folder, case_identify, case_info, case_numbers, case_others, case_read, case_show, few
 from case_files import case_split, case_write_files
 from case_imd import case_imd
-from case_scp import case_unpack
+from case_scp import case_unpack, in_scp_files
 from case_streams import FILLER, SHORTEST, faulty, few_blocks, one_in, spell, too_long
 from case_tracks import noisy_track, random_data, track_stream, whole_track
 from plain import FORMATS
@@ -250,13 +250,13 @@ TABLE = [
     ("images that are written", 30, case_write, None),
     ("G64 files", 150, case_g64, b"from-g64"),
     ("folders", 200, case_folder, b"decode-folder"),
-    ("dumps", 300, case_read, b"read"),
-    ("dumps with headers of others", 60, case_others, b"read"),
-    ("sectors of dumps", 100, case_show, b"show"),
-    ("dumps to be named", 30, case_identify, b"identify"),
+    ("dumps", 300, in_scp_files(case_read), b"read"),
+    ("dumps with headers of others", 60, in_scp_files(case_others), b"read"),
+    ("sectors of dumps", 100, in_scp_files(case_show), b"show"),
+    ("dumps to be named", 30, in_scp_files(case_identify), b"identify"),
     ("dumps to be numbered", 20, case_numbers, plain_commands.BY_NUMBERS),
-    ("turns of dumps", 100, case_info, b"info"),
-    ("disks without a format", 60, case_imd, b"imd"),
+    ("turns of dumps", 100, in_scp_files(case_info), b"info"),
+    ("disks without a format", 60, in_scp_files(case_imd), b"imd"),
     ("images as files", 60, case_write_files, plain_commands.WRITE_FOLDER),
     ("streams to be cut apart", 150, case_split, b"split"),
     ("SCP files", 100, case_unpack, b"unpack"),

@@ -1,9 +1,11 @@
 """Disks read of their dumps, off the definitions: one verdict over the files of several dumps, and what they have of one sector.
 
-Dumps lie on a shelf, which is a folder's files by their paths. A file that is not found, or that fails, is passed over.
+Dumps lie on a shelf, which is a folder's files by their paths. A dump is a folder, one of its files, or an SCP file. A file that is not found,
+or that fails, is passed over.
 """
 import re
 
+import plain_scp
 from plain import Answer, as_controllers_read, controller_readings, turn_of, verdict_of
 from plain_map import Picture
 from plain_streams import Refused, file_stream, recovered
@@ -45,10 +47,32 @@ class Shelf:
             raise Failed          # it is a folder, or the path is too long
         return content
 
+    def has_track(self, dump, cylinder, head):
+        """Whether a dump has a track: its file, or in an SCP file its entry. In one that can't be read each is there."""
+        if not names_scp(dump):
+            return self.has(path_of(dump, cylinder, head))
+        try:
+            content = self.read(dump)
+            return content is not None and 2 * cylinder + head in plain_scp.tracks_in(content)
+        except Failed:
+            return True
+
+    def track(self, dump, cylinder, head):
+        """The bytes of a track, which begin with its stream; None where it is not there."""
+        content = self.read(path_of(dump, cylinder, head))
+        if content is None or not names_scp(dump):
+            return content
+        stream = plain_scp.track_stream(content, 2 * cylinder + head)
+        if isinstance(stream, Refused):
+            raise stream
+        return stream
+
     def kind(self, dump):
-        """What is there in the place of a dump that has none of the files that were looked for."""
+        """What is there in the place of a dump that has none of the tracks that were looked for."""
         if not self.has(dump):
             return "is not there"
+        if names_scp(dump):
+            return "has files of other tracks alone"
         if names_file(dump):
             return "has files of other tracks alone"
         parts = parts_of(dump)
@@ -72,8 +96,15 @@ def names_file(path):
     return re.fullmatch(rb".+[0-9]{2}\.[01]\.raw", path, re.DOTALL) is not None
 
 
+def names_scp(path):
+    """It ends with `.scp`, in letters of any case, with something before."""
+    return re.fullmatch(rb".+\.scp", path, re.DOTALL | re.IGNORECASE) is not None
+
+
 def path_of(dump, cylinder, head):
-    """The file of a track: in a folder, or beside the file by which the dump is named."""
+    """The file of a track: in a folder, beside the file by which the dump is named, or an SCP file of all tracks."""
+    if names_scp(dump):
+        return dump
     ending = b"%02d.%d.raw" % (cylinder, head)
     return dump[:-FILE_ENDING] + ending if names_file(dump) else dump + b"/track" + ending
 
@@ -85,8 +116,13 @@ def all_tracks(there):
 
 
 def no_files_line(dumps, number):
-    """What is told of a dump that has none of the files: of a path of more than 100 bytes the last ones."""
+    """What is told of a dump that has none of the tracks: why an SCP file is refused; of a path of more than 100 bytes the last ones."""
     path = dumps.names[number]
+    try:
+        if names_scp(path) and dumps.shelf.has(path):
+            plain_scp.File(dumps.shelf.read(path))
+    except plain_scp.Refused as stop:
+        return b"refused dump %d %s\n" % (number, stop.text().encode())
     told = path if len(path) <= MOST_PATH_TOLD else b".." + path[-MOST_PATH_TOLD:]
     return b"refused dump %d %s %s\n" % (number, told, dumps.shelf.kind(path).encode())
 
@@ -131,17 +167,17 @@ class Dumps:
     def __init__(self, shelf, names, steps=1, clocks=(0, 1)):
         self.shelf, self.names, self.steps, self.clocks = shelf, names, steps, clocks
 
-    def path(self, number, track):
-        return path_of(self.names[number], self.steps * track[0], track[1])
+    def has(self, number, track):
+        return self.shelf.has_track(self.names[number], self.steps * track[0], track[1])
 
     def first_empty(self, form):
-        """The number of the first dump that has the file of none of the format's tracks, or None."""
+        """The number of the first dump that has none of the format's tracks, or None."""
         return self.first_without(form.tracks)
 
     def first_without(self, tracks):
-        """The number of the first dump that has the file of none of the tracks, or None."""
+        """The number of the first dump that has none of the tracks, or None."""
         for number in range(len(self.names)):
-            if not any(self.shelf.has(self.path(number, track)) for track in tracks):
+            if not any(self.has(number, track) for track in tracks):
                 return number
         return None
 
@@ -150,7 +186,7 @@ class Dumps:
         passed, streams = [], []
         for number in range(len(self.names)):
             try:
-                content = self.shelf.read(self.path(number, track))
+                content = self.shelf.track(self.names[number], self.steps * track[0], track[1])
                 if content is None:
                     passed.append(f"dump {number} missing")
                 else:

@@ -1,6 +1,6 @@
 """Which disk a dump is of, off the definitions: each format that has a name, and the disks by numbers that the dump's own headers tell."""
 from plain import FORMATS, RATES, numbered
-from plain_dumps import MOST_CYLINDERS, MOST_DOUBLE_CYLINDERS, DumpAnswer, Dumps, Failed, no_files_line, path_of, reaches_all, read_tracks
+from plain_dumps import MOST_CYLINDERS, MOST_DOUBLE_CYLINDERS, DumpAnswer, Dumps, Failed, no_files_line, reaches_all, read_tracks
 from plain_recordings import IbmFm, IbmMfm, places_of
 from plain_streams import Refused, file_stream, recovered
 
@@ -30,7 +30,7 @@ def file_streams(shelf, dump):
     for cylinder in range(MOST_OWN_CYLINDERS):
         for head in (0, 1):
             try:
-                content = shelf.read(path_of(dump, cylinder, head))
+                content = shelf.track(dump, cylinder, head)
                 if content is not None:
                     streams[cylinder, head] = file_stream(content)
             except (Failed, Refused):
@@ -150,9 +150,11 @@ def has_failed(shelf, dump):
     for cylinder in range(MOST_CYLINDERS):
         for head in (0, 1):
             try:
-                shelf.read(path_of(dump, cylinder, head))
+                shelf.track(dump, cylinder, head)
             except Failed:
                 return True
+            except Refused:
+                pass
     return False
 
 
@@ -168,7 +170,7 @@ def identify(shelf, name, numbers=True, others=True):
     lines, foreign, any_file, best = [], [], False, None
     disks = candidates()
     if numbers:
-        any_file = any(shelf.has(path_of(name, cylinder, head)) for cylinder in range(MOST_OWN_CYLINDERS) for head in (0, 1))
+        any_file = any(shelf.has_track(name, cylinder, head) for cylinder in range(MOST_OWN_CYLINDERS) for head in (0, 1))
         disks += disks_by_numbers(shelf, name)
     for form, steps, heads in disks:
         dumps, answer = Dumps(shelf, [name], steps, clocks=(0,)), DumpAnswer(form)

@@ -187,7 +187,7 @@ def imd(dumps):
     if empty is not None:
         return 2, b"", no_files_line(dumps, empty)
     answer = Answer()
-    there = [track for track in reached if any(dumps.shelf.has(dumps.path(number, track)) for number in range(len(dumps.names)))]
+    there = [track for track in reached if any(dumps.has(number, track) for number in range(len(dumps.names)))]
     for cylinder, head in all_tracks(there):
         passed, streams = dumps.streams((cylinder, head))
         for why in passed:

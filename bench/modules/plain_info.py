@@ -1,5 +1,5 @@
 """What the files of a dump tell without any format, off the definitions: how many bytes, transitions and turns each has, and how fast it turned."""
-from plain_dumps import Dumps, Failed, all_tracks, no_files_line, path_of
+from plain_dumps import Dumps, Failed, all_tracks, no_files_line
 from plain_streams import Refused, file_stream
 
 MOST_CYLINDERS = 99
@@ -30,10 +30,10 @@ def mean_of(stream):
     return (stream.indexes[-1] - stream.indexes[0]) // (len(stream.indexes) - 1)
 
 
-def read_file(shelf, path):
+def read_file(shelf, dump, cylinder, head):
     """What is told of a file, and the mean of its turns, if it has one."""
     try:
-        content = shelf.read(path)
+        content = shelf.track(dump, cylinder, head)
         if content is None:
             return "missing", None
         stream = file_stream(content)
@@ -46,7 +46,7 @@ def read_file(shelf, path):
 
 def tracks_of(shelf, name):
     """All tracks to the greatest cylinder and the greatest head of which there is a file."""
-    return all_tracks([(cylinder, head) for cylinder in range(MOST_CYLINDERS) for head in (0, 1) if shelf.has(path_of(name, cylinder, head))])
+    return all_tracks([(cylinder, head) for cylinder in range(MOST_CYLINDERS) for head in (0, 1) if shelf.has_track(name, cylinder, head)])
 
 
 def turn_lines(means):
@@ -66,7 +66,7 @@ def info(shelf, name):
         return 2, b"", no_files_line(Dumps(shelf, [name]), 0)
     lines, means, begins = [], [], []
     for cylinder, head in tracks:
-        told, mean = read_file(shelf, path_of(name, cylinder, head))
+        told, mean = read_file(shelf, name, cylinder, head)
         begins.append(told.split()[0])
         lines.append(f"{cylinder:02}.{head} {told}\n")
         means += [(f"{cylinder:02}.{head}", mean)] * (mean is not None)

@@ -2,6 +2,7 @@
 
 All is read of the file's bytes at once. `Refused` is a fault of a file or of a track.
 """
+import functools
 import struct
 
 import plain_streams
@@ -11,8 +12,11 @@ MOST_ENTRIES = 4194304
 TABLE = 168
 
 
-class Refused(Exception):
+class Refused(plain_streams.Refused):
     """Why a file has no tracks, or why a track is not read."""
+
+    def __init__(self, *words):
+        Exception.__init__(self, *words)
 
     def text(self):
         return " ".join(map(str, ("scp", *self.args)))
@@ -109,3 +113,21 @@ class Track:
         for moment in left:
             out += struct.pack("<BBHIII", 13, 2, 12, position, moment - before, moment // 8)
         return bytes(out + struct.pack("<BBHII", 13, 3, 8, position, 0) + b"\r" * 4)
+
+
+@functools.lru_cache(maxsize=None)
+def tracks_in(data):
+    """The numbers of the tracks that a file has: none where it is refused."""
+    try:
+        return frozenset(File(data).offsets)
+    except Refused:
+        return frozenset()
+
+
+@functools.lru_cache(maxsize=None)
+def track_stream(data, number):
+    """The stream that a track stands for, or why it is refused; None where the file has not the track."""
+    try:
+        return File(data).track(number).bytes if number in tracks_in(data) else None
+    except Refused as stop:
+        return stop

@@ -1,20 +1,20 @@
 -- The files of a dump decide which disks they tell.
-use Rattle.std.proofs.Common.{◌≡◌, ◌<◌, ◌≤◌, ◌+◌, ◌*◌, ◌/◌, ◌%◌, ◌∙◌, ◌&&◌, ℕ, zero, suc, Bool, true, false, List, [], ◌∷◌, ◌++◌, Option, Some, None, get_or, length, refl, sym, ap, subst, inl, inr, arith}
+use Rattle.std.proofs.Common.{◌≡◌, ◌<◌, ◌≤◌, ◌+◌, ◌*◌, ◌/◌, ◌%◌, ◌∙◌, ◌&&◌, ℕ, zero, suc, Bool, true, false, List, [], ◌∷◌, ◌++◌, Option, Some, None, Result, get_or, length, refl, sym, ap, subst, arith}
 use Rattle.std.specs.Prelude.{flat_map}
 use Rattle.std.proofs.lemmas.Bool.{lt-ltb}
 use Rattle.std.proofs.lemmas.List.{ext_get_or}
 use Rattle.flux_base.specs.declared.track.TrackId.{TrackId}
 use Rattle.flux_engine.specs.LoopProgress.{seen_at}
-use Rattle.flux_engine.specs.Plans.{Seen, is_failed}
+use Rattle.flux_engine.specs.Plans.{Seen}
 use Rattle.ibm_disks.specs.Numbers.{code_of}
 use Rattle.ibm_disks.specs.declared.rate.Rate.{Rate}
 use Rattle.ibm_disks.specs.declared.sector_size.SectorSize.{SectorSize}
 use Rattle.ibm_disks.specs.declared.sector_size.SectorSize.TheVariants.{Bytes128, Bytes256, Bytes512, Bytes1024}
-use Rattle.kryo_stream.specs.Stream.{first_fault}
-use Rattle.kryo_stream.specs.declared.fault.StreamFault.{StreamFault}
-use Rattle.track_shelf.specs.Files.{File, file_at}
+use Rattle.scp_files.specs.declared.fault.ScpTrackFault.{ScpTrackFault}
+use Rattle.track_shelf.specs.Files.{File}
 use Rattle.track_shelf.specs.declared.stepping.Stepping.TheVariants.{Single}
-use Rattle.dump_reading.specs.DumpStreams.{AreOfDumps, FailedAlike, IsOrFailed, path_in, seen_of, seen_unless}
+use Rattle.dump_reading.specs.DumpStreams.{AreOfDumps, FailedAlike, IsOrFailed, seen_of, track_in}
+use Rattle.dump_reading.specs.lemmas.Alike.{one-stream}
 use Rattle.told_disks.specs.Disks.{AreToldDisks}
 use Rattle.told_disks.specs.Foreign.{AreForeignDisks}
 use Rattle.told_disks.specs.Laws.{ForeignDisksAreOne, ToldDisksAreOne}
@@ -119,30 +119,6 @@ one_foreign told came a b x y = x.are ∙ flat_agree x.by_rate y.by_rate each ra
         (subst (λ (one : List (List Bool)). AreForeignDisks rate (y.first_one rate) (y.first_two rate) one (x.changed_two rate) (y.by_rate rate)) (sym changed_one)
         (subst (λ (two : List (List Bool)). AreForeignDisks rate (y.first_one rate) (y.first_two rate) (y.changed_one rate) two (y.by_rate rate)) (sym changed_two) (y.told rate)))))
 
--- what a file says is not that it failed
-not_failed : (file : Option File) → is_failed (seen_of file).passed ≡ false
-not_failed None = refl
-not_failed (Some file) = by (first_fault file.bytes)
-  where
-    by : (fault : Option (ℕ × StreamFault)) → is_failed (seen_unless file.bytes fault).passed ≡ false
-    by None = refl
-    by (Some fault) = refl
-
--- so what came of a file is one thing, where it failed both times or neither
-settled : (came came' says : Seen) → is_failed says.passed ≡ false → IsOrFailed came says → IsOrFailed came' says → is_failed came.passed ≡ is_failed came'.passed → came ≡ came'
-settled came came' says not (inl same) (inl same') alike = same ∙ sym same'
-settled came came' says not (inr failed) (inr failed') alike = failed ∙ sym failed'
-settled came came' says not (inl same) (inr failed) alike =
-    absurd (no (sym not ∙ ap (λ (s : Seen). is_failed s.passed) (sym same) ∙ alike ∙ ap (λ (s : Seen). is_failed s.passed) failed))
-  where
-    no : false ≡ true → ⊥
-    no e = cc
-settled came came' says not (inr failed) (inl same) alike =
-    absurd (no (sym not ∙ ap (λ (s : Seen). is_failed s.passed) (sym same) ∙ sym alike ∙ ap (λ (s : Seen). is_failed s.passed) failed))
-  where
-    no : false ≡ true → ⊥
-    no e = cc
-
 abbrev no_seen : Seen
 no_seen = record { fault = None; passed = None; times = []; indexes = [] }
 
@@ -152,12 +128,12 @@ module _ (dump : List ℕ) (files : List File) (told told' : Option (List File))
   one_seen : (number : ℕ) → number < 198 → seen_at came' number ≡ seen_at came number
   one_seen i low =
       let at : i * 1 + 0 ≡ i = omega arith in
-      let file : Option File = file_at files (path_in Single (dump ∷ []) (track_number i) 0) in
+      let file : Option (Result (List ℕ) ScpTrackFault) = track_in Single (dump ∷ []) files (track_number i) 0 in
       let one : IsOrFailed (seen_at came i) (seen_of file) =
       subst (λ (k : ℕ). IsOrFailed (seen_at came k) (seen_of file)) at (have files known i 0 (omega arith) (omega arith) (omega (arith, low, all))) in
       let other : IsOrFailed (seen_at came' i) (seen_of file) =
       subst (λ (k : ℕ). IsOrFailed (seen_at came' k) (seen_of file)) at (have' files known' i 0 (omega arith) (omega arith) (omega (arith, low, all'))) in
-      sym (settled (seen_at came i) (seen_at came' i) (seen_of file) (not_failed file) one other (alike i (omega (arith, low, all)) (omega (arith, low, all'))))
+      sym (one-stream file (seen_at came i) (seen_at came' i) one other (alike i (omega (arith, low, all)) (omega (arith, low, all'))))
 
   -- so their sets are the same
   over : (heads : NamedHeads) (rate : Rate) (one two : List (List Bool)) → AreSetsOf heads rate came' one two → AreSetsOf heads rate came one two

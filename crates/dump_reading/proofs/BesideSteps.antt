@@ -15,7 +15,7 @@ use Rattle.flux_base.specs.Outside.{AppendsPart}
 use Rattle.flux_base.specs.declared.track.TrackId.{TrackId}
 use Rattle.sector_images.specs.declared.format.Format.{Format}
 use Rattle.sector_report.specs.declared.dump_lines.Passed.{Passed}
-use Rattle.sector_report.specs.declared.dump_lines.Passed.TheVariants.{Absent, Failed as FailedFile, Refused}
+use Rattle.sector_report.specs.declared.dump_lines.Passed.TheVariants.{Absent, Failed as FailedFile, Refused, RefusedScp}
 use Rattle.sector_report.specs.declared.totals.Totals.{Totals}
 use Rattle.turn_merge.specs.Others.{MOST_TOLD, NotedOther, OthersKnown, OthersStandFor, first_ones, has_untold, others_over, told_of}
 use Rattle.turn_merge.specs.declared.others.OtherTold.{OtherTold}
@@ -68,12 +68,14 @@ one-told q None = refl
 one-told q (Some Absent) = refl
 one-told q (Some FailedFile) = refl
 one-told q (Some (Refused block fault)) = refl
+one-told q (Some (RefusedScp fault)) = refl
 
 one-lost : (q : ℕ) (p : Option Passed) → lost_in (passed_beside q p) ≡ cond (is_failed p) 1 0
 one-lost q None = refl
 one-lost q (Some Absent) = refl
 one-lost q (Some FailedFile) = refl
 one-lost q (Some (Refused block fault)) = refl
+one-lost q (Some (RefusedScp fault)) = refl
 
 single : {X : Type 0} (weight : X → ℕ) (x : X) → sum_by weight (x ∷ []) ≡ weight x
 single weight x = let e : 0 + weight x ≡ weight x = omega arith in e

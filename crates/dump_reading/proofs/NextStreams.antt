@@ -1,4 +1,4 @@
--- What the file of a dump says of its track's stream, and what the shelf then tells.
+-- What a dump says of its track's stream, and what the shelf then tells.
 use Rattle.std.proofs.Common.{◌≡◌, ◌<◌, ◌≤◌, ℕ, zero, suc, false, cond, List, [], ◌∷◌, length, get_or, arith, Option, Some, None, refl, sym, ap, subst, ◌∙◌}
 use Rattle.std.specs.List.{slice_get}
 use Rattle.std.specs.Prelude.{unwrap_or}
@@ -7,7 +7,7 @@ use Rattle.flux_base.specs.Counts.{Counts}
 use Rattle.flux_base.specs.lemmas.Counting.{Counts-none}
 use Rattle.flux_base.specs.declared.track.TrackId.{TrackId}
 use Rattle.index_turns.specs.Track.{TrackState}
-use Rattle.track_shelf.specs.Files.{File, file_at}
+use Rattle.track_shelf.specs.Files.{File, dump_track}
 use Rattle.track_shelf.specs.Names.{path_text}
 use Rattle.track_shelf.specs.Stepping.{file_track}
 use Rattle.track_shelf.specs.Told.{with_failed}
@@ -20,7 +20,7 @@ use Rattle.flux_engine.specs.Plans.{Seen, is_failed}
 use Rattle.flux_engine.specs.Recordings.{track_at}
 use Rattle.flux_engine.specs.declared.track_streams.NextStream.{NextStream}
 use Rattle.flux_engine.specs.declared.track_streams.NextStream.TheVariants.{PassedOver, Read}
-use Rattle.dump_reading.specs.DumpStreams.{GaveOf, IsOrFailed, passed_over, path_in, seen_of}
+use Rattle.dump_reading.specs.DumpStreams.{GaveOf, IsOrFailed, passed_over, path_in, seen_of, track_in}
 use Rattle.dump_reading.specs.inside.DumpStreams.{is_lost, lost_path}
 use Rattle.dump_reading.specs.Files.{ShelfNow}
 use Rattle.dump_reading.specs.lemmas.Coming.{none-failed}
@@ -28,7 +28,7 @@ use Rattle.dump_reading.specs.lemmas.Coming.{none-failed}
 -- One file of a dump was read, or there is no such dump.
 module _ (stepping : Stepping) (dumps : List (List ℕ)) (track : TrackId) (dump : ℕ) (start now : ShelfNow) where
   pub read-gave : (next : NextStream) (flux : TrackState) → (name : List ℕ) → slice_get dumps dump ≡ Some name
-      → ((files : List File) → start.told.files ≡ Some files → IsOrFailed (seen_next next flux) (seen_of (file_at files (path_text name (file_track stepping track)))))
+      → ((files : List File) → start.told.files ≡ Some files → IsOrFailed (seen_next next flux) (seen_of (dump_track files name (file_track stepping track))))
       → now.told ≡ with_failed (lost_path (path_text name (file_track stepping track)) next) start.told
       → Counts (is_lost next) start.counts now.counts
       → GaveOf stepping dumps track dump start now (seen_next next flux)
@@ -40,11 +40,11 @@ module _ (stepping : Stepping) (dumps : List (List ℕ)) (track : TrackId) (dump
       path : path_text name (file_track stepping track) ≡ path_in stepping dumps track dump
       path = ap (λ (n : List ℕ). path_text n (file_track stepping track)) named
 
-      says : (here : Seen) → ((files : List File) → start.told.files ≡ Some files → IsOrFailed here (seen_of (file_at files (path_text name (file_track stepping track)))))
-          → (files : List File) → start.told.files ≡ Some files → dump < length dumps → IsOrFailed here (seen_of (file_at files (path_in stepping dumps track dump)))
-      says here before files is few = subst (λ (p : List ℕ). IsOrFailed here (seen_of (file_at files p))) path (before files is)
+      says : (here : Seen) → ((files : List File) → start.told.files ≡ Some files → IsOrFailed here (seen_of (dump_track files name (file_track stepping track))))
+          → (files : List File) → start.told.files ≡ Some files → dump < length dumps → IsOrFailed here (seen_of (track_in stepping dumps files track dump))
+      says here before files is few = subst (λ (n : List ℕ). IsOrFailed here (seen_of (dump_track files n (file_track stepping track)))) named (before files is)
 
-      by : (n : NextStream) → ((files : List File) → start.told.files ≡ Some files → IsOrFailed (seen_next n flux) (seen_of (file_at files (path_text name (file_track stepping track)))))
+      by : (n : NextStream) → ((files : List File) → start.told.files ≡ Some files → IsOrFailed (seen_next n flux) (seen_of (dump_track files name (file_track stepping track))))
           → now.told ≡ with_failed (lost_path (path_text name (file_track stepping track)) n) start.told → Counts (is_lost n) start.counts now.counts
           → GaveOf stepping dumps track dump start now (seen_next n flux)
       by Read seen' told' counts' = record { told = told'; counts = counts'; is = says _ seen' }

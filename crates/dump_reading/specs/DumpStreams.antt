@@ -1,15 +1,17 @@
--- What came of the files of dumps: what each of them says, or that it failed.
+-- What came of the tracks of dumps: what each of them says, or that its file failed.
 use Rattle.std.specs.Prelude.{◌≡◌, ◌<◌, ◌⊎◌, ℕ, ◌+◌, ◌*◌, ◌/◌, ◌%◌, cond, flat_map}
-use Rattle.std.specs.Prelude.{get_or, List, [], ◌∷◌, length, Option, Some, None}
+use Rattle.std.specs.Prelude.{get_or, List, [], ◌∷◌, length, Option, Some, None, Result, Ok, Err}
 use Rattle.std.specs.List.{range_with_len}
 use Rattle.flux_base.specs.Counts.{Counts}
 use Rattle.flux_base.specs.declared.track.TrackId.{TrackId}
 use Rattle.kryo_stream.specs.Stream.{first_fault, times, indexes}
 use Rattle.kryo_stream.specs.declared.fault.StreamFault.{StreamFault}
 use Rattle.sector_report.specs.declared.dump_lines.Passed.{Passed}
+use Rattle.scp_files.specs.declared.fault.ScpTrackFault.{ScpTrackFault}
 use Rattle.sector_report.specs.declared.dump_lines.Passed.TheVariants.{Absent, Failed, Refused}
+use Rattle.sector_report.specs.declared.dump_lines.Passed.TheVariants.{RefusedScp}
 use Rattle.sector_images.specs.declared.format.Format.{Format}
-use Rattle.track_shelf.specs.Files.{File, file_at}
+use Rattle.track_shelf.specs.Files.{File, dump_track}
 use Rattle.track_shelf.specs.Names.{path_text}
 use Rattle.track_shelf.specs.Stepping.{file_track}
 use Rattle.track_shelf.specs.Told.{with_failed}
@@ -33,10 +35,12 @@ seen_unless bytes (Some fault) = passed_over (Refused fault.0 fault.1)
 abbrev pub seen_file : List ℕ → Seen
 seen_file bytes = seen_unless bytes (first_fault bytes)
 
--- what a file says, if it is there
-abbrev pub seen_of : Option File → Seen
+-- What a dump says of a track that it has: the stream at the begin of these bytes, which are those of
+-- the track's file, or those that the track of an SCP file stands for; or that it is refused.
+abbrev pub seen_of : Option (Result (List ℕ) ScpTrackFault) → Seen
 seen_of None = passed_over Absent
-seen_of (Some file) = seen_file file.bytes
+seen_of (Some (Ok bytes)) = seen_file bytes
+seen_of (Some (Err fault)) = passed_over (RefusedScp fault)
 
 -- what came of a file is what it says; or it failed as it was opened or read, and is passed over
 abbrev pub IsOrFailed : (came says : Seen) → Type 0
@@ -50,6 +54,12 @@ FailedAlike a b = (i : ℕ) → i < length a → i < length b
 -- the path of the file of a track in the dump of this number
 abbrev pub path_in : Stepping → (dumps : List (List ℕ)) → TrackId → (dump : ℕ) → List ℕ
 path_in stepping dumps track dump = path_text (get_or dumps dump []) (file_track stepping track)
+
+-- what the dump of this number has of a track
+abbrev pub track_in : Stepping → (dumps : List (List ℕ)) → List File → TrackId → (dump : ℕ)
+    → Option (Result (List ℕ) ScpTrackFault)
+track_in stepping dumps files track dump =
+    dump_track files (get_or dumps dump []) (file_track stepping track)
 
 -- Some tracks of dumps, by their numbers: how the drive stepped, the dumps, how many streams each
 -- track has, and which tracks they are.
@@ -75,13 +85,13 @@ failed_path of came i = cond (is_failed (seen_at came i).passed) (path_at of i �
 abbrev pub failed_paths : DumpTracks → List Seen → List (List ℕ)
 failed_paths of came = flat_map (failed_path of came) (range_with_len 0 (length came))
 
--- these streams came of the files, where they are told
+-- these streams came of the dumps, where their files are told
 abbrev pub AreOfDumps : DumpTracks → (told : Option (List File)) → List Seen → Type 0
 AreOfDumps of told came =
     (files : List File) → told ≡ Some files → (n dump : ℕ) → dump < length of.dumps
     → dump < of.count → n * of.count + dump < length came
     → IsOrFailed (seen_at came (n * of.count + dump))
-    (seen_of (file_at files (path_in of.stepping of.dumps (of.track_of n) dump)))
+    (seen_of (track_in of.stepping of.dumps files (of.track_of n) dump))
 
 -- They came. What the shelf tells of itself stayed as it was, but that these files failed: its
 -- files, of which none is open that was not, and its own bytes as a source, of which none was read.
@@ -99,4 +109,4 @@ pub record GaveOf (stepping : Stepping) (dumps : List (List ℕ)) (track : Track
       start.told
   pub counts : Counts (is_failed here.passed) start.counts now.counts
   pub is : (files : List File) → start.told.files ≡ Some files → dump < length dumps
-      → IsOrFailed here (seen_of (file_at files (path_in stepping dumps track dump)))
+      → IsOrFailed here (seen_of (track_in stepping dumps files track dump))

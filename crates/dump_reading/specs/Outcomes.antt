@@ -4,14 +4,12 @@ use Rattle.std.specs.Prelude.{◌≡◌, ◌<◌, ◌⊎◌, ℕ, ◌+◌, ◌-�
 use Rattle.std.specs.Prelude.{◌∷◌, ◌++◌, get_or, length, Option, Some, None, Result, Ok, Err}
 use Rattle.std.specs.Io.KnownBytes.{Appends}
 use Rattle.std.specs.List.{list_any}
-use Rattle.std.specs.Option.{is_some}
 use Rattle.flux_base.specs.declared.track.TrackId.{TrackId}
 use Rattle.sector_images.specs.Places.{tracks}
 use Rattle.sector_images.specs.declared.format.Format.{Format}
 use Rattle.sector_report.specs.declared.totals.Totals.{Totals}
 use Rattle.turn_merge.specs.Others.{NotedOther}
-use Rattle.track_shelf.specs.Files.{File, file_at}
-use Rattle.track_shelf.specs.Names.{path_text}
+use Rattle.track_shelf.specs.Files.{File, has_track}
 use Rattle.track_shelf.specs.Stepping.{file_track}
 use Rattle.track_shelf.specs.Told.{with_failed}
 use Rattle.track_shelf.specs.declared.stepping.Stepping.{Stepping}
@@ -42,10 +40,10 @@ use Rattle.dump_reading.specs.declared.totals.DumpTotals.{DumpTotals}
 use Rattle.dump_reading.specs.declared.looks.Looks.{Looks}
 use Rattle.dump_reading.specs.declared.looks.Looks.TheVariants.{Always}
 
--- a dump has the file of a track
+-- a dump has a track: its file, or an SCP file that has it
 abbrev pub has_file : Stepping → List File → (dump : List ℕ) → TrackId → Bool
 has_file stepping files dump track =
-    is_some (file_at files (path_text dump (file_track stepping track)))
+    has_track files dump (file_track stepping track)
 
 -- it has that of one of the format's tracks at least
 unfoldable pub has_any : Stepping → List File → Format → (dump : List ℕ) → Bool

@@ -1,6 +1,6 @@
 //! The dumps of a disk, and where the streams of its tracks lie in them.
 
-ghost use Rattle.std.specs.Prelude.{◌≡◌, ◌<◌, List, ℕ, Some};
+ghost use Rattle.std.specs.Prelude.{◌≡◌, ◌<◌, List, ℕ, Some, true, false};
 ghost use Rattle.flux_base.specs.Counts.{Counts, counts_of};
 ghost use Rattle.flux_base.specs.World.{source_counts};
 ghost use Rattle.track_shelf.specs.World.{told_at};
@@ -10,30 +10,35 @@ ghost use Rattle.dump_reading.specs.DumpStreams.{seen_file, seen_of};
 ghost use Rattle.dump_reading.specs.lemmas.Coming.{none_came};
 ghost use Rattle.dump_reading.specs.Files.{shelf_at};
 ghost use Rattle.dump_reading.specs.inside.Files.{IsFresh};
+ghost use Rattle.dump_reading.specs.lemmas.DumpTracks.{seen_read};
 ghost use Rattle.flux_engine.specs.LoopProgress.{IsBoundedNext, seen_next};
-ghost use Rattle.track_shelf.specs.Files.{File, file_at};
-ghost use Rattle.track_shelf.specs.Names.{path_text};
+ghost use Rattle.index_turns.specs.Track.{TrackState};
+ghost use Rattle.scp_tracks.specs.Reads.{IsBoundedRead};
+ghost use Rattle.track_shelf.specs.Files.{File, dump_track};
+ghost use Rattle.track_shelf.specs.Names.{is_scp, path_text};
 ghost use Rattle.track_shelf.specs.Told.{with_closed, with_failed};
 
 use flux_base::{Failed, TrackId, Word};
 use flux_engine::{CaptureFault, NamedStreams, NextStream, TrackStreams, read_stream};
 use kryo_stream::StreamRoom;
+use scp_tracks::{ScpRead, read_scp};
 use sector_images::{Format, track_id, tracks_keep_bounds};
 use sector_report::Passed;
-use track_shelf::{Shelf, Stepping};
+use track_shelf::{Shelf, Stepping, files_name_dumps, is_scp};
 
-/// The dumps of a disk, each of which may have a file for each of its tracks.
+/// The dumps of a disk, each of which may have a file for each of its tracks, or be an SCP file of them all.
 #[derive(Clone, Copy)]
 pub struct Dumps<'a> {
-    /// By their names: each is a folder, or one of its files.
+    /// By their names: each is a folder, one of its files, or an SCP file.
     pub names: &'a [Word],
     /// How the disk's cylinders lie in their files.
     pub stepping: Stepping,
 }
 
 impl<'a> Dumps<'a> {
-    /// Reads the file of a track in the dump of this number: the stream at its begin. One that is missing or refused is
-    /// passed over, and so is one that fails as it is opened or read. There may be no such dump. No memory is taken.
+    /// Reads a track in the dump of this number: the stream at the begin of its file, or that for which it stands in an
+    /// SCP file. One that is missing or refused is passed over, and so is one whose file fails as it is opened or read.
+    /// There may be no such dump. No memory is taken.
     pub fn read<H: Shelf>(
         &self,
         track: TrackId,
@@ -96,8 +101,8 @@ impl<'a, H: Shelf> NamedStreams<H> for Dumps<'a> {
     }
 }
 
-/// Reads the file of a track of a dump: the stream at its begin. One that is missing or refused is passed over, and so
-/// is one that fails as it is opened or read.
+/// Reads a track of a dump. One that is missing or refused is passed over, and so is one whose file fails as it is
+/// opened or read.
 fn read_dump<H: Shelf>(
     dump: &[u8],
     track: TrackId,
@@ -105,7 +110,68 @@ fn read_dump<H: Shelf>(
     stream: &mut StreamRoom,
 ) -> NextStream
     ensures seen { (files : List File) → H.files shelf.old ≡ Some files
-        → IsOrFailed (seen_next result stream.new.flux) (seen_of (file_at files (path_text dump.now track))) }
+        → IsOrFailed (seen_next result stream.new.flux) (seen_of (dump_track files dump.now track)) }
+    ensures told { told_at H.Source H.Shelf.own shelf.new
+        ≡ with_failed (lost_path (path_text dump.now track) result) (told_at H.Source H.Shelf.own shelf.old) }
+    ensures bounded { IsBoundedNext result stream.new.flux }
+    ensures counts { Counts (is_lost result) (source_counts H.Source shelf.old) (source_counts H.Source shelf.new) }
+{
+    if is_scp(dump) {
+        read_track(dump, track, shelf, stream)
+    } else {
+        open_dump(dump, track, shelf, stream)
+    }
+}
+
+/// Reads a track of an SCP file: the stream that it stands for.
+fn read_track<H: Shelf>(
+    dump: &[u8],
+    track: TrackId,
+    shelf: &mut H,
+    stream: &mut StreamRoom,
+) -> NextStream
+    requires { is_scp dump.now ≡ true }
+    ensures seen { (files : List File) → H.files shelf.old ≡ Some files
+        → IsOrFailed (seen_next result stream.new.flux) (seen_of (dump_track files dump.now track)) }
+    ensures told { told_at H.Source H.Shelf.own shelf.new
+        ≡ with_failed (lost_path (path_text dump.now track) result) (told_at H.Source H.Shelf.own shelf.old) }
+    ensures bounded { IsBoundedNext result stream.new.flux }
+    ensures counts { Counts (is_lost result) (source_counts H.Source shelf.old) (source_counts H.Source shelf.new) }
+{
+    files_name_dumps();
+    match read_scp(dump, track, shelf, stream) {
+        Ok(read) => next_of(read),
+        Err(_) => NextStream::PassedOver(Passed::Failed),
+    }
+}
+
+/// The same as the next stream.
+fn next_of(read: ScpRead) -> NextStream
+    ensures seen { (flux : TrackState) → seen_next result flux ≡ seen_read read flux }
+    ensures bounded { (flux : TrackState) → IsBoundedRead read flux → IsBoundedNext result flux }
+    ensures kept { is_lost result ≡ false }
+{
+    match read {
+        ScpRead::Absent => NextStream::PassedOver(Passed::Absent),
+        ScpRead::Read { .. } => NextStream::Read,
+        ScpRead::Refused(fault) => NextStream::PassedOver(Passed::RefusedScp(fault)),
+        ScpRead::Faulty { block, fault } => NextStream::PassedOver(Passed::Refused {
+            block,
+            fault,
+        }),
+    }
+}
+
+/// Reads the file of a track of a dump: the stream at its begin.
+fn open_dump<H: Shelf>(
+    dump: &[u8],
+    track: TrackId,
+    shelf: &mut H,
+    stream: &mut StreamRoom,
+) -> NextStream
+    requires { is_scp dump.now ≡ false }
+    ensures seen { (files : List File) → H.files shelf.old ≡ Some files
+        → IsOrFailed (seen_next result stream.new.flux) (seen_of (dump_track files dump.now track)) }
     ensures told { told_at H.Source H.Shelf.own shelf.new
         ≡ with_failed (lost_path (path_text dump.now track) result) (told_at H.Source H.Shelf.own shelf.old) }
     ensures bounded { IsBoundedNext result stream.new.flux }

@@ -1,5 +1,5 @@
 -- What all files come to are the numbers of reading the dump as the disk.
-use Rattle.std.specs.Prelude.{All, ◌≡◌, ℕ, zero, suc, ◌+◌, ◌*◌, ◌<◌, Bool, true, false, not, nat_lt, cond, count_by, filter, get_or, List, [], ◌∷◌, ◌++◌, length, map, sum_by, Option, None, refl}
+use Rattle.std.specs.Prelude.{All, ◌≡◌, ℕ, zero, suc, ◌+◌, ◌*◌, ◌<◌, Bool, true, false, not, nat_lt, cond, count_by, filter, get_or, List, [], ◌∷◌, ◌++◌, length, map, sum_by, Option, None, Result, refl}
 use Rattle.std.specs.Option.{is_some}
 use Rattle.std.proofs.Common.{ap, sym, subst, ◌∙◌, arith, append-nil}
 use Rattle.std.proofs.Math.ListN.{get_or-map as get_or-map-all}
@@ -14,8 +14,8 @@ use Rattle.sector_images.specs.Places.{IsTrack, NumbersNameTracks, TracksKeepBou
 use Rattle.sector_images.specs.declared.format.Format.{Format}
 use Rattle.sector_report.specs.declared.dump_lines.Passed.{Passed}
 use Rattle.sector_report.specs.declared.totals.Totals.{Totals}
-use Rattle.track_shelf.specs.Files.{File, file_at}
-use Rattle.track_shelf.specs.Names.{path_text}
+use Rattle.scp_files.specs.declared.fault.ScpTrackFault.{ScpTrackFault}
+use Rattle.track_shelf.specs.Files.{File, dump_track}
 use Rattle.track_shelf.specs.Stepping.{file_track, reaches_all}
 use Rattle.track_shelf.specs.declared.stepping.Stepping.{Stepping}
 use Rattle.track_shelf.specs.declared.stepping.Stepping.TheVariants.{Double, Single}
@@ -35,7 +35,7 @@ use Rattle.flux_engine.specs.declared.plan.Plan.{Plan}
 use Rattle.flux_engine.specs.declared.plan.Rule.TheVariants.{Controller}
 use Rattle.flux_engine.specs.lemmas.TrackAt.{is_track_at}
 use Rattle.dump_reading.specs.Beside.{beside_at, beside_lines, beside_tracks, captures_at, is_track, most_cylinders, named_tracks, near_track, told_beside}
-use Rattle.dump_reading.specs.DumpStreams.{AreOfDumps, IsOrFailed, seen_of as told_of}
+use Rattle.dump_reading.specs.DumpStreams.{AreOfDumps, IsOrFailed, seen_of as told_of, track_in}
 use Rattle.dump_reading.specs.Outcomes.{AreAllBy, LookedAsAsked, LookedBeside, lines_of, numbers_of, plan_of, report_of}
 use Rattle.dump_reading.specs.Reports.{read_part}
 use Rattle.dump_reading.specs.declared.totals.DumpTotals.{DumpTotals}
@@ -218,12 +218,12 @@ module _ (dump : List ℕ) (came : List Seen) (all : length came ≡ 200) (disk 
         let there : i * 1 + 0 < length came = (let inside = file-below stepping track (lie n below) in omega (arith, inside, all, file)) in
         let here : seen_at (streams_of ts) (n * 1 + q) ≡ seen_at came (i * 1 + 0) =
         ap (seen_at (streams_of ts)) at ∙ stream-at ts n below ∙ ap (seen_at came) (sym file) in
-        let path : path_text (get_or (dump ∷ []) q []) (file_track stepping (track_of n)) ≡ path_text dump (track_of_file i) =
-        ap (λ (m : ℕ). path_text (get_or (dump ∷ []) m []) (file_track stepping (track_of n))) none
-        ∙ ap (λ (t : TrackId). path_text dump (file_track stepping t)) (named n below)
-        ∙ ap (path_text dump) (sym (file-is stepping track (lie n below))) in
-        subst (λ (s : Seen). IsOrFailed s (told_of (file_at files (path_text (get_or (dump ∷ []) q []) (file_track stepping (track_of n)))))) (sym here)
-        (subst (λ (p : List ℕ). IsOrFailed (seen_at came (i * 1 + 0)) (told_of (file_at files p))) (sym path)
+        let lies : track_in stepping (dump ∷ []) files (track_of n) q ≡ dump_track files dump (track_of_file i) =
+        ap (track_in stepping (dump ∷ []) files (track_of n)) none
+        ∙ ap (λ (t : TrackId). dump_track files dump (file_track stepping t)) (named n below)
+        ∙ ap (dump_track files dump) (sym (file-is stepping track (lie n below))) in
+        subst (λ (s : Seen). IsOrFailed s (told_of (track_in stepping (dump ∷ []) files (track_of n) q))) (sym here)
+        (subst (λ (o : Option (Result (List ℕ) ScpTrackFault)). IsOrFailed (seen_at came (i * 1 + 0)) (told_of o)) (sym lies)
         (of files known i 0 (omega arith) (omega arith) there))
 
   -- which are passed over

@@ -168,5 +168,6 @@ fn is_told(passed: &Option<Passed>) -> bool
         Some(Passed::Absent) => false,
         Some(Passed::Failed) => true,
         Some(Passed::Refused { .. }) => true,
+        Some(Passed::RefusedScp(_)) => true,
     }
 }

@@ -8,8 +8,7 @@ use Rattle.std.proofs.KnownBytes.{Appends-trans}
 use Rattle.std.specs.Io.KnownBytes.{Appends}
 use Rattle.flux_base.specs.Outside.{AppendsPart}
 use Rattle.flux_base.specs.declared.track.TrackId.{TrackId}
-use Rattle.track_shelf.specs.Files.{File, file_at}
-use Rattle.track_shelf.specs.Names.{path_text}
+use Rattle.track_shelf.specs.Files.{File, dump_track}
 use Rattle.track_shelf.specs.Told.{ShelfTold}
 use Rattle.sector_report.specs.declared.dump_lines.Passed.TheVariants.{Absent}
 use Rattle.flux_engine.specs.Answers.{AppendsAndPart}
@@ -75,15 +74,15 @@ module _ (dump : List ℕ) (reach : Reach) (start : ShelfNow) where
     same-files = ap (λ (t : ShelfTold). t.files) are.have.told
 
     sized-next : (files : List File) → start.told.files ≡ Some files → (n : ℕ) → n < length more → (n < length founds) ⊎ (length founds ≤ n)
-        → HasSize (file_at files (path_text dump (track_number reach n))) (found_at more n)
+        → HasSize (dump_track files dump (track_number reach n)) (found_at more n)
     sized-next files known n below (inl less) =
-        subst (HasSize (file_at files (path_text dump (track_number reach n)))) (sym (get_or_append_left founds (found ∷ []) (PassedOver Absent) n less))
+        subst (HasSize (dump_track files dump (track_number reach n))) (sym (get_or_append_left founds (found ∷ []) (PassedOver Absent) n less))
         (are.sized files known n less)
     sized-next files known n below (inr past) =
         let long : length more ≡ length founds + 1 = length-append founds (found ∷ []) in
         let at : n ≡ length founds = omega (arith, below, past, long) in
-        subst (HasSize (file_at files (path_text dump (track_number reach n)))) (sym (last-of founds found (PassedOver Absent) n at))
-        (subst (λ (k : ℕ). HasSize (file_at files (path_text dump (track_number reach k))) found) (sym at) (one.sized files (same-files ∙ known)))
+        subst (HasSize (dump_track files dump (track_number reach n))) (sym (last-of founds found (PassedOver Absent) n at))
+        (subst (λ (k : ℕ). HasSize (dump_track files dump (track_number reach k)) found) (sym at) (one.sized files (same-files ∙ known)))
 
     -- one more was
     pub found-next : AreFound dump reach start now more

@@ -4,6 +4,7 @@ pub mod Means
 pub mod Middles
 pub mod One
 pub mod Openings
+pub mod Sizes
 pub mod Reaching
 pub mod Tellings
 pub mod Turning

@@ -1,16 +1,15 @@
 -- The files, and which of them failed, decide what is found of a dump, and all that is told of it.
-use Rattle.std.proofs.Common.{◌≡◌, ◌≤◌, ◌<◌, ◌+◌, ◌*◌, ◌-◌, ℕ, true, false, List, length, slice_index, Option, Some, None, refl, sym, ap, subst, ◌∙◌, inl, inr, arith}
+use Rattle.std.proofs.Common.{◌≡◌, ◌≤◌, ◌<◌, ◌+◌, ◌*◌, ◌-◌, ℕ, true, false, List, length, slice_index, Option, Some, None, Result, Ok, Err, refl, sym, ap, subst, ◌∙◌, inl, inr, arith}
 use Rattle.std.specs.Prelude.{unwrap_or}
 use Rattle.std.proofs.lemmas.List.{ext_get_or}
-use Rattle.kryo_stream.specs.Stream.{first_fault}
-use Rattle.kryo_stream.specs.declared.fault.StreamFault.{StreamFault}
 use Rattle.sector_report.specs.declared.dump_lines.Passed.{Passed}
-use Rattle.sector_report.specs.declared.dump_lines.Passed.TheVariants.{Absent, Failed}
-use Rattle.track_shelf.specs.Files.{File, file_at}
-use Rattle.track_shelf.specs.Names.{path_text}
+use Rattle.sector_report.specs.declared.dump_lines.Passed.TheVariants.{Absent, Failed, RefusedScp}
+use Rattle.scp_files.specs.declared.fault.ScpTrackFault.{ScpTrackFault}
+use Rattle.track_shelf.specs.Files.{File, dump_track}
 use Rattle.flux_engine.specs.LoopProgress.{seen_at}
-use Rattle.flux_engine.specs.Plans.{Seen, is_failed}
-use Rattle.dump_reading.specs.DumpStreams.{FailedAlike, IsOrFailed, passed_over, seen_of, seen_unless}
+use Rattle.flux_engine.specs.Plans.{Seen}
+use Rattle.dump_reading.specs.DumpStreams.{FailedAlike, IsOrFailed, seen_of}
+use Rattle.dump_reading.specs.lemmas.Alike.{one-stream}
 use Rattle.dump_reading.specs.Files.{ShelfNow}
 use Rattle.dump_turns.specs.Files.{AreFound, HasSize, IsToldOf, found_at, means_in}
 use Rattle.dump_turns.specs.Laws.{told_of}
@@ -46,28 +45,6 @@ module _ (files : List File) (dump : List ℕ) where
       let sides : reach.heads ≡ reach'.heads = omega (arith, fewer-heads reach reach' a b, fewer-heads reach' reach b a) in
       ap (λ (n : ℕ). record { cylinders = n; heads = reach.heads }) rows ∙ ap (λ (n : ℕ). record { cylinders = reach'.cylinders; heads = n }) sides
 
--- what came of a file, where it failed both times or neither
-says_no_failure : (file : Option File) → is_failed (seen_of file).passed ≡ false
-says_no_failure None = refl
-says_no_failure (Some file) = by_fault file.bytes (first_fault file.bytes)
-  where
-    by_fault : (bytes : List ℕ) (fault : Option (ℕ × StreamFault)) → is_failed (seen_unless bytes fault).passed ≡ false
-    by_fault bytes None = refl
-    by_fault bytes (Some fault) = refl
-
-not_alike : (file : Option File) (a b : Seen) → a ≡ seen_of file → b ≡ passed_over Failed → is_failed a.passed ≡ is_failed b.passed → ⊥
-not_alike file a b p q alike =
-    not_both (sym (says_no_failure file) ∙ sym (ap (λ (s : Seen). is_failed s.passed) p) ∙ alike ∙ ap (λ (s : Seen). is_failed s.passed) q)
-  where
-    not_both : false ≡ true → ⊥
-    not_both is = cc
-
-one_stream : (file : Option File) (a b : Seen) → IsOrFailed a (seen_of file) → IsOrFailed b (seen_of file) → is_failed a.passed ≡ is_failed b.passed → a ≡ b
-one_stream file a b (inl p) (inl q) alike = p ∙ sym q
-one_stream file a b (inr p) (inr q) alike = p ∙ sym q
-one_stream file a b (inl p) (inr q) alike = absurd (not_alike file a b p q alike)
-one_stream file a b (inr p) (inl q) alike = absurd (not_alike file b a q p (sym alike))
-
 -- the revolutions of a stream
 one-turns : (times indexes : List ℕ) (s t : FileTurns) → AreTurns times indexes s → AreTurns times indexes t → s.bytes ≡ t.bytes → s ≡ t
 one-turns times indexes s t p q bytes =
@@ -97,11 +74,16 @@ not-read : (a : Seen) → IsOrFailed a (seen_of None) → a.passed ≡ None → 
 not-read a (inl p) none = none_some Absent (sym none ∙ ap (λ (s : Seen). s.passed) p)
 not-read a (inr p) none = none_some Failed (sym none ∙ ap (λ (s : Seen). s.passed) p)
 
-one-size : (file : Option File) (a : Seen) (s t : FileTurns) → IsOrFailed a (seen_of file) → a.passed ≡ None → HasSize file (Read s) → HasSize file (Read t) → s.bytes ≡ t.bytes
-one-size None a s t came read p q = absurd (not-read a came read)
-one-size (Some file) a s t came read p q = p ∙ sym q
+not-read-refused : (fault : ScpTrackFault) (a : Seen) → IsOrFailed a (seen_of (Some (Err fault))) → a.passed ≡ None → ⊥
+not-read-refused fault a (inl p) none = none_some (RefusedScp fault) (sym none ∙ ap (λ (s : Seen). s.passed) p)
+not-read-refused fault a (inr p) none = none_some Failed (sym none ∙ ap (λ (s : Seen). s.passed) p)
 
-one-found : (file : Option File) (a : Seen) (f g : Found) → IsOrFailed a (seen_of file) → IsToldOf a f → IsToldOf a g → HasSize file f → HasSize file g → f ≡ g
+one-size : (file : Option (Result (List ℕ) ScpTrackFault)) (a : Seen) (s t : FileTurns) → IsOrFailed a (seen_of file) → a.passed ≡ None → HasSize file (Read s) → HasSize file (Read t) → s.bytes ≡ t.bytes
+one-size None a s t came read p q = absurd (not-read a came read)
+one-size (Some (Ok bytes)) a s t came read p q = p ∙ sym q
+one-size (Some (Err fault)) a s t came read p q = absurd (not-read-refused fault a came read)
+
+one-found : (file : Option (Result (List ℕ) ScpTrackFault)) (a : Seen) (f g : Found) → IsOrFailed a (seen_of file) → IsToldOf a f → IsToldOf a g → HasSize file f → HasSize file g → f ≡ g
 one-found file a (PassedOver why) (PassedOver why') came p q size size' =
     ap (λ (o : Option Passed). PassedOver (unwrap_or o Absent)) (sym p ∙ q)
 one-found file a (PassedOver why) (Read t) came p q size size' = absurd (none_some why (sym q.0 ∙ p))
@@ -110,8 +92,8 @@ one-found file a (Read s) (Read t) came p q size size' = ap Read (one-turns a.ti
 
 module _ (dump : List ℕ) (files : List File) (start now start' now' : ShelfNow) (first : start.told.files ≡ Some files) (second : start'.told.files ≡ Some files) (reach : Reach)
     (founds founds' : List Found) (one : AreFound dump reach start now founds) (other : AreFound dump reach start' now' founds') (alike : FailedAlike one.came other.came) where
-  abbrev file_of : ℕ → Option File
-  file_of n = file_at files (path_text dump (track_number reach n))
+  abbrev file_of : ℕ → Option (Result (List ℕ) ScpTrackFault)
+  file_of n = dump_track files dump (track_number reach n)
 
   -- what came of a file is what it says, or that it failed
   at-place : (began after : ShelfNow) (some : List Found) (are : AreFound dump reach began after some) → began.told.files ≡ Some files → (n : ℕ) → n < length some
@@ -129,7 +111,7 @@ module _ (dump : List ℕ) (files : List File) (start now start' now' : ShelfNow
       let below' : n < length founds' = omega (arith, below, long) in
       let came = at-place start now founds one first n below in
       let came' = at-place start' now' founds' other second n below' in
-      let same : seen_at one.came n ≡ seen_at other.came n = one_stream (file_of n) (seen_at one.came n) (seen_at other.came n) came came'
+      let same : seen_at one.came n ≡ seen_at other.came n = one-stream (file_of n) (seen_at one.came n) (seen_at other.came n) came came'
       (alike n (let many = one.many in omega (arith, many, below)) (let many = other.many in omega (arith, many, below'))) in
       one-found (file_of n) (seen_at one.came n) (found_at founds n) (found_at founds' n) came (one.told n below)
       (subst (λ (s : Seen). IsToldOf s (found_at founds' n)) (sym same) (other.told n below')) (one.sized files first n below) (other.sized files second n below'))

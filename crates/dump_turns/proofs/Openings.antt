@@ -1,5 +1,5 @@
 -- What a file says that was opened and read.
-use Rattle.std.proofs.Common.{◌≡◌, ◌<◌, ◌≤◌, ◌⊎◌, ◌+◌, ◌++◌, ℕ, Bool, true, false, cond, List, [], ◌∷◌, length, take, drop, Option, Some, None, refl, sym, ap, subst, ◌∙◌, inl, inr, arith, length-append}
+use Rattle.std.proofs.Common.{◌≡◌, ◌<◌, ◌≤◌, ◌⊎◌, ◌+◌, ◌++◌, ℕ, Bool, true, false, cond, List, [], ◌∷◌, length, take, drop, Option, Some, None, Result, Ok, Err, refl, sym, ap, subst, ◌∙◌, inl, inr, arith, length-append}
 use Rattle.std.specs.Prelude.{min}
 use Rattle.std.specs.Io.KnownBytes.{Consumes, IsAtEnd}
 use Rattle.std.proofs.lemmas.Bool.{cases_lt}
@@ -7,16 +7,21 @@ use Rattle.std.proofs.lemmas.List.{drop_all, length-take, take-append-drop, take
 use Rattle.flux_base.specs.Counts.{Counts}
 use Rattle.flux_base.specs.declared.track.TrackId.{TrackId}
 use Rattle.index_turns.specs.Track.{TrackState}
+use Rattle.scp_files.specs.declared.fault.ScpTrackFault.{ScpTrackFault}
 use Rattle.sector_report.specs.declared.dump_lines.Passed.{Passed}
 use Rattle.sector_report.specs.declared.dump_lines.Passed.TheVariants.{Absent, Failed}
-use Rattle.track_shelf.specs.Files.{File, file_at}
-use Rattle.track_shelf.specs.Names.{path_text}
+use Rattle.track_shelf.specs.Files.{File, dump_track, file_at, scp_track_in}
+use Rattle.track_shelf.specs.Names.{is_scp, path_text}
 use Rattle.track_shelf.specs.Told.{with_failed}
 use Rattle.flux_engine.specs.Plans.{Seen, is_failed}
 use Rattle.dump_reading.specs.Files.{ShelfNow}
 use Rattle.flux_engine.specs.LoopProgress.{seen_next}
 use Rattle.flux_engine.specs.declared.track_streams.NextStream.{NextStream}
 use Rattle.dump_reading.specs.DumpStreams.{passed_over, seen_file, seen_of}
+use Rattle.dump_reading.specs.lemmas.DumpTracks.{in_file, of-file, of-scp, scp-says, seen_read}
+use Rattle.scp_tracks.specs.Reads.{IsScpRead}
+use Rattle.scp_tracks.specs.declared.stream.ScpRead.{ScpRead}
+use Rattle.scp_tracks.specs.declared.stream.ScpRead.TheVariants.{Absent as AbsentTrack, Faulty, Read as ReadTrack, Refused as RefusedTrack}
 use Rattle.dump_turns.specs.Files.{HasSize, IsToldOf, MOST_BYTES}
 use Rattle.dump_turns.specs.declared.files.Opened.TheVariants.{Missing, Whole}
 use Rattle.dump_turns.specs.declared.found.FileTurns.{FileTurns}
@@ -25,7 +30,7 @@ use Rattle.dump_turns.specs.declared.found.Found.TheVariants.{PassedOver, Read}
 use Rattle.dump_turns.specs.inside.Opened.{FindsOne, Holds, IsOpenedOf}
 
 -- there is none
-pub missing-is : (o : Option File) (buffer : List ℕ) → IsOpenedOf o buffer Missing → passed_over Absent ≡ seen_of o
+pub missing-is : (o : Option File) (buffer : List ℕ) → IsOpenedOf o buffer Missing → passed_over Absent ≡ seen_of (in_file o)
 missing-is None buffer is = refl
 missing-is (Some file) buffer is = absurd is
 
@@ -43,12 +48,12 @@ module _ (buffer : List ℕ) (count : ℕ) (full : length buffer ≡ MOST_BYTES)
 
   -- it is read, or refused
   pub whole-is : (o : Option File) (next : NextStream) (flux : TrackState) → IsOpenedOf o buffer (Whole count)
-      → ((later : List ℕ) → (length (take count buffer) < MOST_BYTES → later ≡ []) → seen_next next flux ≡ seen_file (take count buffer ++ later)) → seen_next next flux ≡ seen_of o
+      → ((later : List ℕ) → (length (take count buffer) < MOST_BYTES → later ≡ []) → seen_next next flux ≡ seen_file (take count buffer ++ later)) → seen_next next flux ≡ seen_of (in_file o)
   whole-is None next flux is seen = absurd is
   whole-is (Some file) next flux holds seen = seen (drop count file.bytes) (nothing-behind file holds) ∙ ap seen_file (whole file holds)
 
   -- and its bytes are counted
-  pub whole-sized : (o : Option File) (turns : FileTurns) → turns.bytes ≡ count → IsOpenedOf o buffer (Whole count) → HasSize o (Read turns)
+  pub whole-sized : (o : Option File) (turns : FileTurns) → turns.bytes ≡ count → IsOpenedOf o buffer (Whole count) → HasSize (in_file o) (Read turns)
   whole-sized None turns counted is = absurd is
   whole-sized (Some file) turns counted holds = counted ∙ holds.count_is ∙ ap (λ (n : ℕ). min (length file.bytes) n) full
 
@@ -83,9 +88,17 @@ module _ (bytes buffer : List ℕ) (count : ℕ) (within : count ≤ length buff
   }
 
 -- a file that is passed over has no size
-pub passed-sized : (o : Option File) (why : Passed) → HasSize o (PassedOver why)
+pub passed-sized : (o : Option (Result (List ℕ) ScpTrackFault)) (why : Passed) → HasSize o (PassedOver why)
 passed-sized None why = tt
-passed-sized (Some file) why = tt
+passed-sized (Some (Ok bytes)) why = tt
+passed-sized (Some (Err fault)) why = tt
+
+-- a track of an SCP file that was looked at did not fail
+pub read-sound : (read : ScpRead) (flux : TrackState) → is_failed (seen_read read flux).passed ≡ false
+read-sound AbsentTrack flux = refl
+read-sound (ReadTrack size) flux = refl
+read-sound (RefusedTrack fault) flux = refl
+read-sound (Faulty block fault) flux = refl
 
 -- What came of it is what it says, or that it failed.
 module _ (dump : List ℕ) (track : TrackId) (start now : ShelfNow) where
@@ -93,8 +106,8 @@ module _ (dump : List ℕ) (track : TrackId) (start now : ShelfNow) where
   path = path_text dump track
 
   pub finds-said : (here : Seen) (found : Found) → is_failed here.passed ≡ false → now.told ≡ with_failed [] start.told → Counts false start.counts now.counts
-      → ((files : List File) → start.told.files ≡ Some files → here ≡ seen_of (file_at files path)) → IsToldOf here found
-      → ((files : List File) → start.told.files ≡ Some files → HasSize (file_at files path) found) → FindsOne dump track start now found
+      → ((files : List File) → start.told.files ≡ Some files → here ≡ seen_of (dump_track files dump track)) → IsToldOf here found
+      → ((files : List File) → start.told.files ≡ Some files → HasSize (dump_track files dump track) found) → FindsOne dump track start now found
   finds-said here found sound told counts says is sized = record {
     here = here;
     gave = record {
@@ -106,10 +119,28 @@ module _ (dump : List ℕ) (track : TrackId) (start now : ShelfNow) where
     sized = sized;
   }
 
+  -- of a dump that is no SCP file
+  pub finds-file : is_scp dump ≡ false → (here : Seen) (found : Found) → is_failed here.passed ≡ false → now.told ≡ with_failed [] start.told → Counts false start.counts now.counts
+      → ((files : List File) → start.told.files ≡ Some files → here ≡ seen_of (in_file (file_at files path))) → IsToldOf here found
+      → ((files : List File) → start.told.files ≡ Some files → HasSize (in_file (file_at files path)) found) → FindsOne dump track start now found
+  finds-file other here found sound told counts says is sized =
+      finds-said here found sound told counts (λ files known. says files known ∙ ap seen_of (sym (of-file files dump track other))) is
+      (λ files known. subst (λ (o : Option (Result (List ℕ) ScpTrackFault)). HasSize o found) (sym (of-file files dump track other)) (sized files known))
+
+  -- and of one that is one
+  pub finds-scp : is_scp dump ≡ true → (read : ScpRead) (flux : TrackState) (found : Found) → is_failed (seen_read read flux).passed ≡ false → now.told ≡ with_failed [] start.told
+      → Counts false start.counts now.counts
+      → ((files : List File) → start.told.files ≡ Some files → IsScpRead (scp_track_in (file_at files dump) track) read flux) → IsToldOf (seen_read read flux) found
+      → ((files : List File) → start.told.files ≡ Some files → HasSize (scp_track_in (file_at files dump) track) found) → FindsOne dump track start now found
+  finds-scp scp read flux found sound told counts says is sized =
+      finds-said (seen_read read flux) found sound told counts
+      (λ files known. scp-says (scp_track_in (file_at files dump) track) read flux (says files known) ∙ ap seen_of (sym (of-scp files dump track scp))) is
+      (λ files known. subst (λ (o : Option (Result (List ℕ) ScpTrackFault)). HasSize o found) (sym (of-scp files dump track scp)) (sized files known))
+
   pub finds-lost : now.told ≡ with_failed (path ∷ []) start.told → Counts true start.counts now.counts → FindsOne dump track start now (PassedOver Failed)
   finds-lost told counts = record {
     here = passed_over Failed;
     gave = record { told = told; counts = counts; is = λ files known few. inr refl };
     told = refl;
-    sized = λ files known. passed-sized (file_at files path) Failed;
+    sized = λ files known. passed-sized (dump_track files dump track) Failed;
   }

@@ -1,10 +1,8 @@
 -- How far the files of a dump reach of which the first tracks were looked for.
 use Rattle.std.proofs.Common.{◌≡◌, ◌<◌, ◌≤◌, ◌⊎◌, ◌+◌, ◌*◌, ◌/◌, ◌%◌, ℕ, Bool, true, false, List, Option, Some, None, refl, sym, ap, ◌∙◌, inl, inr, arith}
-use Rattle.std.specs.Option.{is_some}
 use Rattle.std.proofs.lemmas.Bool.{cases_lt}
 use Rattle.flux_base.specs.declared.track.TrackId.{TrackId}
-use Rattle.track_shelf.specs.Files.{File, file_at}
-use Rattle.track_shelf.specs.Names.{path_text}
+use Rattle.track_shelf.specs.Files.{File, has_track}
 use Rattle.dump_turns.specs.Reaches.{HasFile, IsReachOf, MOST_CYLINDERS}
 use Rattle.dump_turns.specs.declared.reach.Reach.{Reach}
 use Rattle.dump_turns.specs.inside.Reached.{with_track}
@@ -53,7 +51,7 @@ module _ (files : List File) (dump : List ℕ) (number : ℕ) (track : TrackId) 
 
   module _ (reach : Reach) (so_far : IsReachIn files dump number reach) where
     -- it has no file
-    reach-same : file_at files (path_text dump track) ≡ None → IsReachIn files dump (number + 1) reach
+    reach-same : has_track files dump track ≡ false → IsReachIn files dump (number + 1) reach
     reach-same none = record { within = λ other has below. by other has below (cases_lt (number_of other) number); some = so_far.some }
       where
         by : (other : TrackId) → HasFile files dump other → number_of other < number + 1 → (number_of other < number) ⊎ (number ≤ number_of other)
@@ -62,28 +60,17 @@ module _ (files : List File) (dump : List ℕ) (number : ℕ) (track : TrackId) 
         by other has below (inr past) =
             let at : number_of other ≡ number = omega (arith, below, past) in
             let same = same-track other has.looked_for.head at in
-            absurd (none_some (sym none ∙ ap (λ (t : TrackId). file_at files (path_text dump t)) (sym same) ∙ has.there))
+            absurd (not_both (sym none ∙ ap (has_track files dump) (sym same) ∙ has.there))
           where
-            none_some : None ≡ Some has.file → ⊥
-            none_some e = cc
+            not_both : false ≡ true → ⊥
+            not_both e = cc
 
-    module _ (row : track.cylinder < MOST_CYLINDERS) (side : track.head < 2) (there : is_some (file_at files (path_text dump track)) ≡ true)
+    module _ (row : track.cylinder < MOST_CYLINDERS) (side : track.head < 2) (there : has_track files dump track ≡ true)
         (some_cylinder : 0 < reach.heads → 0 < reach.cylinders) where
-      some-of : (o : Option File) → is_some o ≡ true → (f : File) × (o ≡ Some f)
-      some-of None e = absurd (no e)
-        where
-          no : false ≡ true → ⊥
-          no e = cc
-      some-of (Some f) e = (f, refl)
-
-      abbrev file : File
-      file = (some-of (file_at files (path_text dump track)) there).0
-
       has : HasFile files dump track
       has = record {
         looked_for = record { cylinder = row; head = side };
-        file = file;
-        there = (some-of (file_at files (path_text dump track)) there).1;
+        there = there;
       }
 
       abbrev wider : Reach
@@ -126,13 +113,9 @@ module _ (files : List File) (dump : List ℕ) (number : ℕ) (track : TrackId) 
 
 -- the track of one number more was looked for
 module _ (told : Option (List File)) (dump : List ℕ) (number : ℕ) (below : number < 198) (reach : Reach) (so_far : IsReachTo told dump number reach) (holds : Bool)
-    (says : (files : List File) → told ≡ Some files → holds ≡ is_some (file_at files (path_text dump (record { cylinder = number / 2; head = number % 2 })))) where
+    (says : (files : List File) → told ≡ Some files → holds ≡ has_track files dump (record { cylinder = number / 2; head = number % 2 })) where
   abbrev track : TrackId
   track = record { cylinder = number / 2; head = number % 2 }
-
-  none-of : (o : Option File) → is_some o ≡ false → o ≡ None
-  none-of None e = refl
-  none-of (Some f) e = cc
 
   -- it has no file
   pub reach-gone : holds ≡ false → IsReachTo told dump (number + 1) reach
@@ -142,7 +125,7 @@ module _ (told : Option (List File)) (dump : List ℕ) (number : ℕ) (below : n
     some_head = so_far.some_head;
     some_cylinder = so_far.some_cylinder;
     in_files = λ files known.
-        reach-same files dump number track refl refl reach (so_far.in_files files known) (none-of (file_at files (path_text dump track)) (sym (says files known) ∙ gone));
+        reach-same files dump number track refl refl reach (so_far.in_files files known) (sym (says files known) ∙ gone);
   }
 
   -- it has one

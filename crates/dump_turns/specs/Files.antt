@@ -1,8 +1,8 @@
 -- What is found of the files of a dump.
 use Rattle.std.specs.Prelude.{◌≡◌, ◌<◌, ℕ, min, filter_map, get_or, List, length, Option, Some}
-use Rattle.std.specs.Prelude.{None}
-use Rattle.track_shelf.specs.Files.{File, file_at}
-use Rattle.track_shelf.specs.Names.{path_text}
+use Rattle.std.specs.Prelude.{None, Result, Ok}
+use Rattle.scp_files.specs.declared.fault.ScpTrackFault.{ScpTrackFault}
+use Rattle.track_shelf.specs.Files.{File, dump_track}
 use Rattle.sector_report.specs.declared.dump_lines.Passed.TheVariants.{Absent}
 use Rattle.flux_engine.specs.LoopProgress.{seen_at}
 use Rattle.flux_engine.specs.Plans.{Seen}
@@ -24,9 +24,9 @@ IsToldOf seen (PassedOver why) = seen.passed ≡ Some why
 IsToldOf seen (Read turns) =
     (seen.passed ≡ None) × AreTurns seen.times seen.indexes turns × IsBoundedTurns turns
 
--- the file's bytes are counted
-abbrev pub HasSize : Option File → Found → Type 0
-HasSize (Some file) (Read turns) = turns.bytes ≡ min (length file.bytes) MOST_BYTES
+-- the bytes of the file are counted, or those of the stream that a track of an SCP file stands for
+abbrev pub HasSize : Option (Result (List ℕ) ScpTrackFault) → Found → Type 0
+HasSize (Some (Ok bytes)) (Read turns) = turns.bytes ≡ min (length bytes) MOST_BYTES
 HasSize _ _ = Unit {0}
 
 abbrev pub found_at : List Found → ℕ → Found
@@ -41,7 +41,7 @@ pub record AreFound (dump : List ℕ) (reach : Reach) (start now : ShelfNow)
   pub have : HaveComeOf (of_dump dump reach) start now came
   pub told : (n : ℕ) → n < length founds → IsToldOf (seen_at came n) (found_at founds n)
   pub sized : (files : List File) → start.told.files ≡ Some files → (n : ℕ) → n < length founds
-      → HasSize (file_at files (path_text dump (track_number reach n))) (found_at founds n)
+      → HasSize (dump_track files dump (track_number reach n)) (found_at founds n)
 
 -- the mean of a file's revolutions, where it is read
 abbrev pub mean_in : Found → Option ℕ

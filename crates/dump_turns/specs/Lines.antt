@@ -4,8 +4,10 @@ use Rattle.std.specs.Prelude.{count_by, decimal, flat_map, length, nat_lt, Optio
 use Rattle.std.specs.List.{range_with_len}
 use Rattle.flux_base.specs.declared.track.TrackId.{TrackId}
 use Rattle.sector_report.specs.Lines.{fault_text, two_digits}
+use Rattle.sector_report.specs.ScpLines.{scp_fault_text}
 use Rattle.sector_report.specs.declared.dump_lines.Passed.{Passed}
 use Rattle.sector_report.specs.declared.dump_lines.Passed.TheVariants.{Absent, Failed, Refused}
+use Rattle.sector_report.specs.declared.dump_lines.Passed.TheVariants.{RefusedScp}
 use Rattle.dump_turns.specs.Files.{found_at}
 use Rattle.dump_turns.specs.Reaches.{track_number}
 use Rattle.dump_turns.specs.Spreads.{is_uneven}
@@ -31,6 +33,7 @@ passed_text Absent = codes " missing\n"
 passed_text Failed = codes " failed\n"
 passed_text (Refused block fault) =
     codes " refused block " ++ decimal block ++ codes " " ++ fault_text fault ++ codes "\n"
+passed_text (RefusedScp fault) = codes " refused scp " ++ scp_fault_text fault ++ codes "\n"
 
 -- how many bytes, transitions and revolutions a file has
 unfoldable pub counts_text : FileTurns → List ℕ
@@ -96,6 +99,7 @@ is_there _ = true
 
 abbrev pub is_refused : Found → Bool
 is_refused (PassedOver (Refused block fault)) = true
+is_refused (PassedOver (RefusedScp fault)) = true
 is_refused _ = false
 
 abbrev pub has_failed : Found → Bool

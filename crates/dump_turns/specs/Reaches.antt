@@ -1,9 +1,8 @@
--- Of which tracks a dump has files.
-use Rattle.std.specs.Prelude.{◌≡◌, ◌<◌, ◌≤◌, ℕ, ◌+◌, ◌*◌, ◌/◌, ◌%◌, List, [], ◌∷◌, Option, Some}
-use Rattle.std.specs.Prelude.{None}
+-- Which tracks a dump has.
+use Rattle.std.specs.Prelude.{◌≡◌, ◌<◌, ◌≤◌, ℕ, ◌+◌, ◌*◌, ◌/◌, ◌%◌, true, List, [], ◌∷◌, Option}
+use Rattle.std.specs.Prelude.{Some, None}
 use Rattle.flux_base.specs.declared.track.TrackId.{TrackId}
-use Rattle.track_shelf.specs.Files.{File, file_at}
-use Rattle.track_shelf.specs.Names.{path_text}
+use Rattle.track_shelf.specs.Files.{File, has_track}
 use Rattle.track_shelf.specs.declared.stepping.Stepping.TheVariants.{Single}
 use Rattle.dump_reading.specs.DumpStreams.{DumpTracks}
 use Rattle.dump_turns.specs.declared.reach.Reach.{Reach}
@@ -17,11 +16,10 @@ pub record IsLookedFor (track : TrackId) : Type 0 where
   pub cylinder : track.cylinder < MOST_CYLINDERS
   pub head : track.head < 2
 
--- a dump has the file of such a track
+-- a dump has such a track
 pub record HasFile (files : List File) (dump : List ℕ) (track : TrackId) : Type 0 where
   pub looked_for : IsLookedFor track
-  pub file : File
-  pub there : file_at files (path_text dump track) ≡ Some file
+  pub there : has_track files dump track ≡ true
 
 -- One more than the greatest cylinder and the greatest head of which a dump has a file: no file
 -- is beyond them, and some file has the one, and some the other.

@@ -1,17 +1,20 @@
-//! The file of a track: it is opened, read once, and what is found of it.
+//! A track of a dump: it is read once, and what is found of it.
 
-ghost use Rattle.std.specs.Prelude.{◌≡◌, ◌≤◌, ◌<◌, ◌++◌, ℕ, List, [], Some, false, length, is_err, IfOk};
+ghost use Rattle.std.specs.Prelude.{◌≡◌, ◌≤◌, ◌<◌, ◌++◌, ℕ, List, [], Option, Some, true, false, length, is_err, IfOk};
 ghost use Rattle.flux_base.specs.Counts.{Counts, counts_of};
 ghost use Rattle.flux_base.specs.World.{source_counts};
-ghost use Rattle.track_shelf.specs.Files.{File, file_at};
-ghost use Rattle.track_shelf.specs.Names.{path_text};
+ghost use Rattle.flux_base.specs.declared.track.TrackId.{TrackId as Id};
+ghost use Rattle.scp_tracks.specs.Reads.{IsBoundedRead, IsScpRead};
+ghost use Rattle.track_shelf.specs.Files.{File, file_at, scp_track_in};
+ghost use Rattle.track_shelf.specs.Names.{is_scp, path_text};
 ghost use Rattle.track_shelf.specs.Told.{with_closed, with_failed};
 ghost use Rattle.track_shelf.specs.World.{told_at};
 ghost use Rattle.flux_engine.specs.LoopProgress.{IsBoundedNext, seen_next};
 ghost use Rattle.flux_engine.specs.Plans.{is_failed};
 ghost use Rattle.dump_reading.specs.DumpStreams.{seen_file};
 ghost use Rattle.dump_reading.specs.Files.{shelf_at};
-ghost use Rattle.dump_turns.specs.Files.{MOST_BYTES};
+ghost use Rattle.dump_reading.specs.lemmas.DumpTracks.{seen_read};
+ghost use Rattle.dump_turns.specs.Files.{HasSize, IsToldOf, MOST_BYTES};
 ghost use Rattle.dump_turns.specs.inside.Opened.{FindsOne, Holds, IsFresh, IsOpenedOf, IsWithin, is_lost, lost_path};
 ghost use Rattle.dump_turns.specs.inside.Told.{IsBoundedFound};
 
@@ -19,9 +22,11 @@ use crate::found::Found;
 use crate::measuring::measure;
 use flux_base::{Failed, TrackId};
 use flux_engine::{NextStream, fill};
+use index_turns::TrackFlux;
 use kryo_stream::{StreamRoom, growth_law};
+use scp_tracks::{ScpRead, read_scp};
 use sector_report::Passed;
-use track_shelf::Shelf;
+use track_shelf::{Shelf, files_name_dumps, is_scp};
 
 /// The most bytes of a file that are read and counted: two streams have room in them.
 pub(crate) const MOST_BYTES: usize = 8388608;
@@ -36,7 +41,8 @@ pub(crate) enum Opened {
     Whole(usize),
 }
 
-/// What is found of the file of a track of a dump, which is read once into the buffer.
+/// What is found of a track of a dump, whose file is read once into the buffer; an SCP file is read at the track's
+/// place.
 pub(crate) fn find_one<H: Shelf>(
     dump: &[u8],
     track: TrackId,
@@ -45,6 +51,58 @@ pub(crate) fn find_one<H: Shelf>(
     shelf: &mut H,
 ) -> Found
     requires { length buffer.old ≡ MOST_BYTES }
+    ensures found { FindsOne dump.now track (shelf_at H.Source H.Shelf.own shelf.old)
+        (shelf_at H.Source H.Shelf.own shelf.new) result }
+    ensures bounded { IsBoundedFound result }
+    ensures len { length buffer.new ≡ length buffer.old }
+{
+    if is_scp(dump) {
+        find_scp(dump, track, stream, shelf)
+    } else {
+        find_file(dump, track, buffer, stream, shelf)
+    }
+}
+
+/// What is found of a track of an SCP file.
+fn find_scp<H: Shelf>(dump: &[u8], track: TrackId, stream: &mut StreamRoom, shelf: &mut H) -> Found
+    requires { is_scp dump.now ≡ true }
+    ensures found { FindsOne dump.now track (shelf_at H.Source H.Shelf.own shelf.old)
+        (shelf_at H.Source H.Shelf.own shelf.new) result }
+    ensures bounded { IsBoundedFound result }
+{
+    files_name_dumps();
+    match read_scp(dump, track, shelf, stream) {
+        Ok(read) => found_of(read, stream.flux()),
+        Err(_) => Found::PassedOver(Passed::Failed),
+    }
+}
+
+/// What is found of a track that came so, with these transitions and index times where it was read.
+fn found_of(read: ScpRead, flux: &TrackFlux) -> Found
+    requires { IsBoundedRead read flux.now }
+    ensures told { IsToldOf (seen_read read flux.now) result }
+    ensures sized { (file : Option File) (track : Id) → IsScpRead (scp_track_in file track) read flux.now
+        → HasSize (scp_track_in file track) result }
+    ensures bounded { IsBoundedFound result }
+{
+    match read {
+        ScpRead::Absent => Found::PassedOver(Passed::Absent),
+        ScpRead::Read { size } => Found::Read(measure(flux, size)),
+        ScpRead::Refused(fault) => Found::PassedOver(Passed::RefusedScp(fault)),
+        ScpRead::Faulty { block, fault } => Found::PassedOver(Passed::Refused { block, fault }),
+    }
+}
+
+/// What is found of the file of a track of a dump, which is read once into the buffer.
+fn find_file<H: Shelf>(
+    dump: &[u8],
+    track: TrackId,
+    buffer: &mut [u8],
+    stream: &mut StreamRoom,
+    shelf: &mut H,
+) -> Found
+    requires file { is_scp dump.now ≡ false }
+    requires buffer { length buffer.old ≡ MOST_BYTES }
     ensures found { FindsOne dump.now track (shelf_at H.Source H.Shelf.own shelf.old)
         (shelf_at H.Source H.Shelf.own shelf.new) result }
     ensures bounded { IsBoundedFound result }

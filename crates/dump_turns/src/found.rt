@@ -5,7 +5,8 @@ use sector_report::Passed;
 /// The revolutions of a file, between its first index moment and its last. All times are in ticks.
 #[derive(Clone, Copy, Debug, PartialEq, Eq)]
 pub struct FileTurns {
-    /// The file's bytes, of which at most 8388608 are counted.
+    /// The file's bytes, of which at most 8388608 are counted; of an SCP file those of the stream that the track
+    /// stands for.
     pub bytes: u32,
     pub transitions: u32,
     /// How many revolutions there are: one at least.

@@ -11,12 +11,15 @@ use crate::found::FileTurns;
 use crate::spread::Spread;
 use crate::totals::TurnTotals;
 use flux_base::TrackId;
-use sector_report::{Line, Passed, put, put_fault, put_named, put_two_digits, put_u32, put_u64};
+use sector_report::{
+    Line, Passed, put, put_fault, put_named, put_scp_fault, put_two_digits, put_u32, put_u64,
+};
 
 /// How many ticks are seven seconds.
 const TICKS_OF_SEVEN_SECONDS: u64 = 168192000;
 
-/// Why a file is passed over: `CC.H missing`, `CC.H failed`, or `CC.H refused block B` and the fault.
+/// Why a file is passed over: `CC.H missing`, `CC.H failed`, or `CC.H refused block B` or `CC.H refused scp` and the
+/// fault.
 #[tactic(auto, unfolding(crate::specs::Lines::passed_text))]
 pub(crate) fn passed_line(track: TrackId, passed: Passed) -> Line
     ensures { result.bytes ≡ track_text track ++ passed_text passed }
@@ -30,6 +33,11 @@ pub(crate) fn passed_line(track: TrackId, passed: Passed) -> Line
             put_named(&mut line, " refused block ", block);
             put(&mut line, " ");
             put_fault(&mut line, &fault);
+            put(&mut line, "\n");
+        }
+        Passed::RefusedScp(fault) => {
+            put(&mut line, " refused scp ");
+            put_scp_fault(&mut line, fault);
             put(&mut line, "\n");
         }
     }

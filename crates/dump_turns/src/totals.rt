@@ -38,7 +38,7 @@ impl TurnTotals {
                 self.files += 1;
                 self.failed += 1;
             }
-            Found::PassedOver(Passed::Refused { .. }) => {
+            Found::PassedOver(Passed::Refused { .. } | Passed::RefusedScp(_)) => {
                 self.files += 1;
                 self.refused += 1;
             }

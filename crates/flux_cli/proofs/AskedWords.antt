@@ -38,7 +38,7 @@ module _ (others : List (List ℕ)) (asked : Asked) where
   keeps_behind Info p = subst Keeps (sym p.2) tt
   keeps_behind Imd p = subst Keeps (sym p.2) p.1.named
   keeps_behind Write (inl p) = subst Keeps (sym p.2) tt
-  keeps_behind Write (inr p) = subst Keeps (sym p.4) p.3.is_folder
+  keeps_behind Write (inr p) = subst Keeps (sym p.4) p.3.a_folder
   keeps_behind Split p = subst Keeps (sym p.6) tt
   keeps_behind Unpack p = subst Keeps (sym p.5) tt
   keeps_behind Trial p = subst Keeps (sym p.5) tt

@@ -1,6 +1,6 @@
 -- From the files that were made of an image to what is promised of them.
 use Rattle.std.specs.Prelude.{IfSome}
-use Rattle.std.proofs.Common.{◌≡◌, ◌<◌, ℕ, false, List, length, Option, Some, None, Ok, Err, inl, inr, refl, sym, ap, ◌∙◌, subst, arith}
+use Rattle.std.proofs.Common.{◌≡◌, ◌<◌, ℕ, true, List, length, Option, Some, None, Ok, Err, inl, inr, refl, sym, ap, ◌∙◌, subst, arith}
 use Rattle.std.specs.Io.KnownBytes.{Consumes}
 use Rattle.std.specs.Prelude.{option_map}
 use Rattle.std.proofs.KnownBytes.{Consumes-whole}
@@ -18,20 +18,20 @@ use Rattle.flux_help.specs.Pages.{number_text}
 use Rattle.law_written_dumps.specs.Headline.{AreCaptured, AreReadWell, CanBeWritten, WrittenDumpsAreReadWell, WrittenFilesCapture, files_with}
 use Rattle.sector_images.specs.declared.format.Format.{Format}
 use Rattle.track_shelf.specs.Files.{File}
-use Rattle.track_shelf.specs.Names.{names_file}
+use Rattle.track_shelf.specs.Names.{is_folder}
 use Rattle.flux_cli.specs.FilesHeadline.{AreWritten, OfWritten}
 use Rattle.flux_cli.specs.FilesWork.{WritesAsNeeded, files_ending, files_of, files_work}
 use Rattle.flux_cli.specs.MakingWork.{EndsMaking, Makes}
 use Rattle.flux_cli.specs.World.{World}
 
-module _ (captured : WrittenFilesCapture) (well : WrittenDumpsAreReadWell) (format : Format) (folder : List ℕ) (is_folder : names_file folder ≡ false) where
+module _ (captured : WrittenFilesCapture) (well : WrittenDumpsAreReadWell) (format : Format) (folder : List ℕ) (named : is_folder folder ≡ true) where
   abbrev target : DiskFolder
   target = files_of format folder
 
   can : (files : List File) → first_there files folder format ≡ None → CanBeWritten target files
   can files none =
       let few : length number_text < 65 = (Decides-ltb (length number_text) 65).0 refl in
-      record { short = omega (arith, few); is_folder = is_folder; none_there = none }
+      record { short = omega (arith, few); a_folder = named; none_there = none }
 
   written : (image : List ℕ) (before after : Made) → IsImage format image → first_there before.files folder format ≡ None
       → after ≡ with_folder_of folder (disk_files target image) before → AreWritten target image before after

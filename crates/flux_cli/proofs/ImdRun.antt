@@ -20,7 +20,7 @@ use Rattle.imd_image.specs.Outcomes.{AllFound, DumpsAsked, SaysOfImd, lines_of, 
 use Rattle.imd_image.specs.Totals.{all_passed, asks, is_complete, totals_of}
 use Rattle.imd_image.specs.declared.totals.ImdTotals.{ImdTotals}
 use Rattle.sector_report.specs.declared.dump_lines.Passed.{Passed}
-use Rattle.sector_report.specs.declared.dump_lines.Passed.TheVariants.{Absent, Failed as HasFailed, Refused as IsRefused}
+use Rattle.sector_report.specs.declared.dump_lines.Passed.TheVariants.{Absent, Failed as HasFailed, Refused as IsRefused, RefusedScp}
 use Rattle.track_shelf.specs.Files.{File}
 use Rattle.track_shelf.specs.declared.stepping.Stepping.{Stepping}
 use Rattle.imd_image.specs.Reaches.{IsWithout}
@@ -52,6 +52,7 @@ one_lost capture None = refl
 one_lost capture (Some Absent) = refl
 one_lost capture (Some HasFailed) = refl
 one_lost capture (Some (IsRefused block fault)) = refl
+one_lost capture (Some (RefusedScp fault)) = refl
 
 lost_to : (streams : List Seen) (count : ℕ) → count ≤ length streams → count_by has_lost (passed_to (λ n dump. seen_at streams dump) 0 count) ≡ lost_count (take count streams)
 lost_to streams zero low = refl

@@ -16,7 +16,7 @@ use Rattle.flux_engine.specs.Plans.{Seen, is_failed}
 use Rattle.flux_engine.specs.declared.fault.Stopped.{Stopped}
 use Rattle.flux_engine.specs.declared.fault.Stopped.TheVariants.{ReadFault, ImageFault, NotesFault, Refused}
 use Rattle.sector_report.specs.declared.dump_lines.Passed.{Passed}
-use Rattle.sector_report.specs.declared.dump_lines.Passed.TheVariants.{Absent, Failed as HasFailed, Refused as IsRefused}
+use Rattle.sector_report.specs.declared.dump_lines.Passed.TheVariants.{Absent, Failed as HasFailed, Refused as IsRefused, RefusedScp}
 use Rattle.track_shelf.specs.Files.{File}
 use Rattle.flux_cli.proofs.EndingLaws.{IsDone, done-if}
 use Rattle.flux_cli.proofs.Often.{fails-by, often-either, often-if}
@@ -41,6 +41,7 @@ same_fault : (why : Passed) → has_failed (PassedOver why) ≡ is_failed (Some 
 same_fault Absent = refl
 same_fault HasFailed = refl
 same_fault (IsRefused block fault) = refl
+same_fault (RefusedScp fault) = refl
 
 one_failed : (seen : Seen) (found : Found) → IsToldOf seen found → has_failed found ≡ is_failed seen.passed
 one_failed seen (PassedOver why) told = same_fault why ∙ sym (ap is_failed told)

@@ -1,12 +1,12 @@
 -- What words ask, as the commands take it: what it keeps to; and of dumps each disk is read by both
 -- clocks, and all files of its dumps are looked at.
-use Rattle.std.specs.Prelude.{◌≡◌, ◌<◌, false, length}
+use Rattle.std.specs.Prelude.{◌≡◌, ◌<◌, true, length}
 use Rattle.flux_engine.specs.Recordings.{track_at}
 use Rattle.dump_reading.specs.Outcomes.{DumpDisk}
 use Rattle.dump_reading.specs.declared.looks.Looks.TheVariants.{Always}
 use Rattle.flux_engine.specs.declared.plan.Clocks.TheVariants.{Both}
 use Rattle.sector_images.specs.Places.{IsSector, tracks}
-use Rattle.track_shelf.specs.Names.{names_file}
+use Rattle.track_shelf.specs.Names.{is_folder}
 use Rattle.flux_words.specs.Asked.{Asked, some_streams, some_dumps, a_sector, an_imd_file}
 use Rattle.flux_words.specs.Asked.{written_files}
 use Rattle.flux_words.specs.Counts.{IsManyCaptures}
@@ -47,5 +47,5 @@ Keeps (some_streams asked) = IsFew asked.way
 Keeps (some_dumps asked) = CanBeRead asked
 Keeps (a_sector asked) = IsPlaced asked
 Keeps (an_imd_file asked) = AreNamed asked.dumps
-Keeps (written_files format folder) = names_file folder ≡ false
+Keeps (written_files format folder) = is_folder folder ≡ true
 Keeps _ = Unit {0}

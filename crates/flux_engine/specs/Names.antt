@@ -4,6 +4,7 @@ use Rattle.flux_base.specs.declared.track.TrackId.{TrackId}
 use Rattle.sector_images.specs.declared.format.Format.{Format}
 use Rattle.sector_report.specs.declared.dump_lines.Passed.{Passed}
 use Rattle.sector_report.specs.declared.dump_lines.Passed.TheVariants.{Absent, Failed, Refused}
+use Rattle.sector_report.specs.declared.dump_lines.Passed.TheVariants.{RefusedScp}
 use Rattle.turn_merge.specs.Others.{NotedOther, OthersKnown}
 use Rattle.turn_merge.specs.declared.clock.Clock.{Clock}
 use Rattle.flux_engine.specs.Captured.{AppendsOthers, AreNamesOf, AreNotedBy, count_of_clocks}
@@ -18,6 +19,7 @@ abbrev pub passed_beside : ℕ → Option Passed → List PassedStream
 passed_beside q (Some Absent) = passed_one q None
 passed_beside q (Some Failed) = passed_one q (Some Failed)
 passed_beside q (Some (Refused block fault)) = passed_one q (Some (Refused block fault))
+passed_beside q (Some (RefusedScp fault)) = passed_one q (Some (RefusedScp fault))
 passed_beside q None = passed_one q None
 
 -- all headers in the cells that a clock recovers of a capture were noted, after those before

@@ -144,6 +144,7 @@ fn note_passed(why: Passed, capture: u8, passed: &mut PassedStreams)
         Passed::Absent => {}
         Passed::Failed => passed.push(PassedStream { capture, why }),
         Passed::Refused { .. } => passed.push(PassedStream { capture, why }),
+        Passed::RefusedScp(_) => passed.push(PassedStream { capture, why }),
     }
 }
 

@@ -139,11 +139,11 @@ const READ: Texts<&str> = Texts {
     usage: "usage: flux read [--picture] [--double-step] FORMAT DUMP...\n",
     about: "
 Reads the files trackCC.H.raw of 1 to 8 folders, each a dump of the disk, and gives one verdict for each sector over all of
-them. A DUMP that is a file, as shelf/disk00.0.raw, stands for all files that begin as it does. A file that is missing, fails
-or is refused is told and passed over, and headers of other sectors than the disk's are told, on all tracks of which there are
-files. The image goes to standard output, the report to standard error. With --double-step the file of cylinder 2C is that of
-the disk's cylinder C. With --picture a picture of the verdicts (SVG), as map draws it, goes to standard output, and there is no
-report. Both may stand in either order.
+them. A DUMP that is a file, as shelf/disk00.0.raw, stands for all files that begin as it does; one that ends with .scp is an
+SCP file. A file that is missing, fails or is refused is told and passed over, and headers of other sectors than the disk's
+are told, on all tracks of which there are files. The image goes to standard output, the report to standard error. With
+--double-step the file of cylinder 2C is that of the disk's cylinder C. With --picture a picture of the verdicts (SVG), as map
+draws it, goes to standard output, and there is no report. Both may stand in either order.
 
 Example:
    flux read amiga dump second > disk.adf 2> report.txt
@@ -277,9 +277,8 @@ const UNPACK: Texts<&str> = Texts {
     line: "   unpack DISK.scp FOLDER       an SCP file to streams, as files\n",
     usage: "usage: flux unpack DISK.scp FOLDER\n",
     about: "
-Makes a file trackCC.H.raw, a KryoFlux stream, of each track of an SCP file in the folder, which is made: every other command
-reads them. Where such a file is there already, none is written. Notes tell each track that is refused or ends early, and
-how many files were made.
+Makes a file trackCC.H.raw, a KryoFlux stream, of each track of an SCP file in the folder, which is made. Where such a file is
+there already, none is written. Notes tell each track that is refused or ends early, and how many files were made.
 
 Example:
    flux unpack disk.scp dump

@@ -1,5 +1,5 @@
 -- The words of a command: its verb's, and those behind it.
-use Rattle.std.specs.Prelude.{◌≡◌, ◌≢◌, ◌⊎◌, ℕ, false, List, [], ◌∷◌, codes, Option, Some}
+use Rattle.std.specs.Prelude.{◌≡◌, ◌≢◌, ◌⊎◌, ℕ, true, List, [], ◌∷◌, codes, Option, Some}
 use Rattle.std.specs.Prelude.{None}
 use Rattle.flux_help.specs.Verbs.{verb_of}
 use Rattle.flux_help.specs.declared.page.Page.{Page}
@@ -13,7 +13,7 @@ use Rattle.sector_images.specs.Formats.{IsWordOfFormat}
 use Rattle.sector_images.specs.declared.format.Format.{Format}
 use Rattle.stream_files.specs.declared.heads.Heads.{Heads}
 use Rattle.stream_files.specs.declared.heads.Heads.TheVariants.{One, Two}
-use Rattle.track_shelf.specs.Names.{names_file}
+use Rattle.track_shelf.specs.Names.{is_folder}
 use Rattle.flux_words.specs.Asked.{Asked, the_turns, some_streams, a_folder, some_dumps, a_sector}
 use Rattle.flux_words.specs.Asked.{an_identity, told_files, written_streams, a_trial, a_g64_file}
 use Rattle.flux_words.specs.Asked.{an_imd_file}
@@ -47,11 +47,11 @@ abbrev pub IsFormatInFolder : Format → (folder : List ℕ) → (others : List 
 IsFormatInFolder format folder others =
     (word : List ℕ) × (others ≡ codes "--folder" ∷ folder ∷ word ∷ []) × IsWordOfFormat word format
 
--- Files can be made in a folder of this name: it has one, and not that of a track's file, by which
--- a dump may be named.
+-- Files can be made in a folder of this name: it has one, and not that of a track's file or of an
+-- SCP file, by which a dump may be named.
 pub record CanBeMade (folder : List ℕ) : Type 0 where
   pub named : folder ≢ []
-  pub is_folder : names_file folder ≡ false
+  pub a_folder : is_folder folder ≡ true
 
 -- an image's streams as files of a folder
 abbrev pub AreFilesWords : (others : List (List ℕ)) → Asked → Type 0

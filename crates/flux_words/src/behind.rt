@@ -24,7 +24,7 @@ use flux_base::Word;
 use flux_help::{Page, Verb};
 use sector_images::{Format, words_name_formats};
 use stream_files::Heads;
-use track_shelf::names_file;
+use track_shelf::{is_scp, names_file};
 
 /// A format alone.
 fn format_in(others: &[Word]) -> Option<Format>
@@ -232,7 +232,7 @@ fn can_be_made(folder: &Word) -> bool
     if name.is_empty() {
         false
     } else {
-        !names_file(name)
+        !(names_file(name) || is_scp(name))
     }
 }
 

@@ -1,12 +1,10 @@
 -- How far files reach of which the first ones were looked for.
 use Rattle.std.proofs.Common.{◌≡◌, ◌<◌, ◌≤◌, ◌⊎◌, ◌+◌, ◌*◌, ◌/◌, ◌%◌, ℕ, Bool, true, false, List, [], length, get_or, Option, Some, None, refl, sym, ap, subst, ◌∙◌, inl, inr, arith}
-use Rattle.std.specs.Option.{is_some}
 use Rattle.std.proofs.lemmas.Bool.{cases_lt}
 use Rattle.dump_turns.specs.Reaches.{IsBoundedReach}
 use Rattle.dump_turns.specs.declared.reach.Reach.{Reach}
 use Rattle.flux_base.specs.declared.track.TrackId.{TrackId}
-use Rattle.track_shelf.specs.Files.{File, file_at}
-use Rattle.track_shelf.specs.Names.{path_text}
+use Rattle.track_shelf.specs.Files.{File, has_track}
 use Rattle.track_shelf.specs.Stepping.{file_track}
 use Rattle.track_shelf.specs.declared.stepping.Stepping.{Stepping}
 use Rattle.track_shelf.specs.declared.stepping.Stepping.TheVariants.{Single, Double}
@@ -118,7 +116,7 @@ module _ (told : Option (List File)) (stepping : Stepping) (dump : List ℕ) (nu
   abbrev track : TrackId
   track = record { cylinder = number / 2; head = number % 2 }
 
-  module _ (says : (files : List File) → told ≡ Some files → holds ≡ is_some (file_at files (path_text dump (file_track stepping track)))) where
+  module _ (says : (files : List File) → told ≡ Some files → holds ≡ has_track files dump (file_track stepping track)) where
     -- the track of the number
     same-track : (other : TrackId) → other.head < 2 → number_of other ≡ number → other ≡ track
     same-track other low at =
@@ -127,9 +125,8 @@ module _ (told : Option (List File)) (stepping : Stepping) (dump : List ℕ) (nu
         ap (λ (c : ℕ). record { cylinder = c; head = other.head }) row ∙ ap (λ (h : ℕ). record { cylinder = number / 2; head = h }) side
 
     module _ (files : List File) (known : told ≡ Some files) where
-      none_some : (o : Option File) (file : File) → is_some o ≡ false → o ≡ Some file → ⊥
-      none_some None file e f = cc
-      none_some (Some x) file e f = cc
+      not-both : (b : Bool) → b ≡ false → b ≡ true → ⊥
+      not-both b e f = cc
 
       not-here : holds ≡ false → (other : TrackId) → HasBelow files stepping dump (number + 1) other → (number_of other < number) ⊎ (number ≤ number_of other)
           → HasBelow files stepping dump number other
@@ -138,8 +135,8 @@ module _ (told : Option (List File)) (stepping : Stepping) (dump : List ℕ) (nu
           let low = has.1 in
           let at : number_of other ≡ number = omega (arith, low, past) in
           let same = same-track other has.0.head at in
-          absurd (none_some (file_at files (path_text dump (file_track stepping track))) has.0.file (sym (says files known) ∙ gone)
-          (ap (λ (t : TrackId). file_at files (path_text dump (file_track stepping t))) (sym same) ∙ has.0.there))
+          absurd (not-both (has_track files dump (file_track stepping track)) (sym (says files known) ∙ gone)
+          (ap (λ (t : TrackId). has_track files dump (file_track stepping t)) (sym same) ∙ has.0.there))
 
       here-or : (other : TrackId) → HasBelow files stepping dump (number + 1) other → (number_of other < number) ⊎ (number ≤ number_of other)
           → HasBelow files stepping dump number other ⊎ ((other ≡ track) × HasFile files stepping dump other)
@@ -148,21 +145,8 @@ module _ (told : Option (List File)) (stepping : Stepping) (dump : List ℕ) (nu
           let low = has.1 in
           inr (same-track other has.0.head (omega (arith, low, past)), has.0)
 
-      some-of : (o : Option File) → is_some o ≡ true → (f : File) × (o ≡ Some f)
-      some-of None e = absurd (no e)
-        where
-          no : false ≡ true → ⊥
-          no e = cc
-      some-of (Some f) e = (f, refl)
-
       it-has : holds ≡ true → HasFile files stepping dump track
-      it-has there =
-          let found = some-of (file_at files (path_text dump (file_track stepping track))) (sym (says files known) ∙ there) in record {
-            cylinder = omega (arith, below);
-            head = omega arith;
-            file = found.0;
-            there = found.1;
-          }
+      it-has there = record { cylinder = omega (arith, below); head = omega arith; there = sym (says files known) ∙ there }
 
       widen-here : (other : TrackId) → HasBelow files stepping dump number other → HasBelow files stepping dump (number + 1) other
       widen-here other has = (has.0, let low = has.1 in omega (arith, low))

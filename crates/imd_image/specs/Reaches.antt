@@ -1,11 +1,10 @@
--- Of which tracks some dumps have files.
-use Rattle.std.specs.Prelude.{◌≡◌, ◌<◌, ℕ, ◌+◌, List, [], get_or, length, Option, Some}
+-- Which tracks some dumps have.
+use Rattle.std.specs.Prelude.{◌≡◌, ◌<◌, ℕ, ◌+◌, true, List, [], get_or, length}
 use Rattle.dump_reading.specs.DumpStreams.{DumpTracks}
 use Rattle.dump_turns.specs.Reaches.{track_number}
 use Rattle.dump_turns.specs.declared.reach.Reach.{Reach}
 use Rattle.flux_base.specs.declared.track.TrackId.{TrackId}
-use Rattle.track_shelf.specs.Files.{File, file_at}
-use Rattle.track_shelf.specs.Names.{path_text}
+use Rattle.track_shelf.specs.Files.{File, has_track}
 use Rattle.track_shelf.specs.Stepping.{file_track}
 use Rattle.track_shelf.specs.declared.stepping.Stepping.{Stepping}
 use Rattle.track_shelf.specs.declared.stepping.Stepping.TheVariants.{Single, Double}
@@ -16,13 +15,12 @@ abbrev pub cylinders_by : Stepping → ℕ
 cylinders_by Single = 99
 cylinders_by Double = 42
 
--- a dump has the file of such a track, on one of two heads
+-- a dump has such a track, on one of two heads
 pub record HasFile (files : List File) (stepping : Stepping) (dump : List ℕ)
     (track : TrackId) : Type 0 where
   pub cylinder : track.cylinder < cylinders_by stepping
   pub head : track.head < 2
-  pub file : File
-  pub there : file_at files (path_text dump (file_track stepping track)) ≡ Some file
+  pub there : has_track files dump (file_track stepping track) ≡ true
 
 -- one of the first dumps has
 abbrev pub HasAFile : List File → Stepping → (dumps : List (List ℕ)) → (count : ℕ) → TrackId

@@ -10,7 +10,7 @@ use crate::totals::ImdTotals;
 use flux_base::TrackId;
 use flux_engine::PassedStream;
 use sector_report::{
-    Line, Passed, passed_line, put, put_fault, put_named, put_two_digits, put_u32,
+    Line, Passed, passed_line, put, put_fault, put_named, put_scp_fault, put_two_digits, put_u32,
 };
 
 /// That the file of a track was passed over, and why: of several dumps with the number of the dump.
@@ -25,7 +25,7 @@ pub(crate) fn file_line(dumps: u8, track: TrackId, passed: &PassedStream) -> Lin
     }
 }
 
-/// The same of one dump: `CC.H missing`, `CC.H failed`, or `CC.H refused block B` and the fault.
+/// The same of one dump: `CC.H missing`, `CC.H failed`, or `CC.H refused block B` or `CC.H refused scp` and the fault.
 #[tactic(auto, unfolding(dump_turns::specs::Lines::passed_text))]
 fn alone_line(track: TrackId, passed: Passed) -> Line
     ensures { result.bytes ≡ track_text track ++ alone_text passed }
@@ -41,6 +41,11 @@ fn alone_line(track: TrackId, passed: Passed) -> Line
             put_named(&mut line, " refused block ", block);
             put(&mut line, " ");
             put_fault(&mut line, &fault);
+            put(&mut line, "\n");
+        }
+        Passed::RefusedScp(fault) => {
+            put(&mut line, " refused scp ");
+            put_scp_fault(&mut line, fault);
             put(&mut line, "\n");
         }
     }

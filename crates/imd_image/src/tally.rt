@@ -204,6 +204,6 @@ fn is_passed_for(passed: &PassedStream, cause: Cause) -> bool
     match cause {
         Cause::Absent => matches!(passed.why, Passed::Absent),
         Cause::Failed => matches!(passed.why, Passed::Failed),
-        Cause::Refused => matches!(passed.why, Passed::Refused { .. }),
+        Cause::Refused => matches!(passed.why, Passed::Refused { .. } | Passed::RefusedScp(_)),
     }
 }

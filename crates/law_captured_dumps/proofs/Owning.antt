@@ -1,10 +1,10 @@
 -- What stands in the cells of a dump's stream: of one that captures its track each sector with its own bytes, and nothing else; of one
 -- that is passed over nothing.
-use Rattle.std.specs.Prelude.{◌≡◌, ◌≤◌, ◌<◌, ℕ, ◌+◌, ◌-◌, ◌*◌, ◌++◌, Bool, true, List, [], ◌∷◌, drop, length, map, slice_index, is_some, option_and_then, Option, None, Some, refl}
+use Rattle.std.specs.Prelude.{◌≡◌, ◌≤◌, ◌<◌, ℕ, ◌+◌, ◌-◌, ◌*◌, ◌++◌, Bool, true, List, [], ◌∷◌, drop, length, map, slice_index, is_some, option_and_then, Option, None, Some, Result, Ok, Err, refl}
 use Rattle.std.proofs.Common.{ap, sym, subst, ◌∙◌, arith, append-nil, inl, inr, length-drop}
 use Rattle.std.proofs.lemmas.Option.{slice_get-get_or}
 use Rattle.disk_recordings.specs.Laws.{RingsHaveCells}
-use Rattle.dump_reading.specs.DumpStreams.{IsOrFailed, path_in, seen_file, seen_of, seen_unless}
+use Rattle.dump_reading.specs.DumpStreams.{IsOrFailed, seen_file, seen_of, seen_unless, track_in}
 use Rattle.dump_reading.specs.Outcomes.{DumpDisk}
 use Rattle.flux_base.specs.declared.track.TrackId.{TrackId}
 use Rattle.flux_engine.specs.Captures.{CapturesAreRecovered, ErasedCapturesAreRecovered, IsSteady, IsSteadyErased, SteadyCapturesAreRecovered, SteadyErasedCapturesAreRecovered}
@@ -26,15 +26,15 @@ use Rattle.law_captured_disks.specs.lemmas.Cells.{cells-same}
 use Rattle.law_decoded_rings.specs.Pieces.{RingPiece, begin_of_piece, cells_of_ring_pieces}
 use Rattle.law_decoded_rings.specs.Verdicts.{LiesInOnePiece, PiecesAreRightWithin, StandsAsWrittenWithin, TwoRingsHaveSectors}
 use Rattle.phase_loop.specs.Rows.{recovered}
+use Rattle.scp_files.specs.declared.fault.ScpTrackFault.{ScpTrackFault}
 use Rattle.sector_images.specs.Places.{NumbersNameTracks, SectorsLieInImages, tracks}
 use Rattle.sector_images.specs.declared.format.Format.{Format}
 use Rattle.track_rings.specs.Rings.{last_in, stretch}
-use Rattle.track_shelf.specs.Files.{File, file_at}
-use Rattle.track_shelf.specs.Names.{path_text}
+use Rattle.track_shelf.specs.Files.{File, dump_track}
 use Rattle.track_shelf.specs.Stepping.{file_track}
 use Rattle.turn_merge.specs.declared.clock.Clock.{Clock}
 use Rattle.turn_merge.specs.declared.clock.Clock.TheVariants.{Following}
-use Rattle.law_captured_dumps.specs.Inputs.{Begins, Captures, CapturesInPart, HasFailed, HasWhole, IsPassedOver, IsSteadyOrPassed, file_on}
+use Rattle.law_captured_dumps.specs.Inputs.{Begins, Captures, CapturesInPart, HasFailed, HasWhole, IsPassedOver, IsSteadyOrPassed, track_on}
 use Rattle.law_read_dumps.specs.Said.{AreOfFiles, says_on}
 
 -- what the crates below promise
@@ -53,10 +53,10 @@ pub record Laws : Type 0 where
   pub two_rings : (format : Format) (image : List ℕ) (k : ℕ) → IsImage format image → k < length (tracks format)
       → TwoRingsHaveSectors (StandsBy Controller format (track_at format k)) (written_track format image k)
 
--- a file that is there says what it says
-file_says : (disk : DumpDisk) (files : List File) (n dump : ℕ) → dump < length disk.dumps → says_on disk files n dump ≡ seen_of (file_on disk files n dump)
-file_says disk files n dump few =
-    ap (λ (name : Option (List ℕ)). seen_of (option_and_then (λ (dump : List ℕ). file_at files (path_text dump (file_track disk.stepping (track_at disk.format n)))) name))
+-- a dump says what it has
+track_says : (disk : DumpDisk) (files : List File) (n dump : ℕ) → dump < length disk.dumps → says_on disk files n dump ≡ seen_of (track_on disk files n dump)
+track_says disk files n dump few =
+    ap (λ (name : Option (List ℕ)). seen_of (option_and_then (λ (dump : List ℕ). dump_track files dump (file_track disk.stepping (track_at disk.format n))) name))
     (sym (slice_get-get_or disk.dumps dump [] few))
 
 -- a stream without a fault is read, whatever follows it
@@ -69,15 +69,16 @@ begin_seen stay stream later bytes begins sound =
     ∙ ap (λ (blocks : List SpelledBlock). record { fault = None; passed = None; times = times_of blocks; indexes = indexes_of blocks }) same.blocks
 
 -- what is passed over has no transitions
-passed_times : (file : Option File) → is_some (seen_of file).passed ≡ true → (seen_of file).times ≡ []
+passed_times : (it : Option (Result (List ℕ) ScpTrackFault)) → is_some (seen_of it).passed ≡ true → (seen_of it).times ≡ []
 passed_times None is = refl
-passed_times (Some file) is = by_fault file.bytes (first_fault file.bytes) is
+passed_times (Some (Err fault)) is = refl
+passed_times (Some (Ok bytes)) is = by_fault bytes (first_fault bytes) is
   where
     by_fault : (bytes : List ℕ) (fault : Option (ℕ × StreamFault)) → is_some (seen_unless bytes fault).passed ≡ true → (seen_unless bytes fault).times ≡ []
     by_fault bytes None is = absurd (cc)
     by_fault bytes (Some fault) is = refl
 
-came_times : (file : Option File) (came : Seen) → IsOrFailed came (seen_of file) → is_some came.passed ≡ true → came.times ≡ []
+came_times : (file : Option (Result (List ℕ) ScpTrackFault)) (came : Seen) → IsOrFailed came (seen_of file) → is_some came.passed ≡ true → came.times ≡ []
 came_times file came (inl same) passed =
     ap (λ (s : Seen). s.times) same ∙ passed_times file (sym (ap (λ (s : Seen). is_some s.passed) same) ∙ passed)
 came_times file came (inr failed) passed = ap (λ (s : Seen). s.times) failed
@@ -109,7 +110,7 @@ module _ (laws : Laws) (disk : DumpDisk) (came : Streams) (files : List File) (o
   passed_holds n q clock known few passed place sector bytes here =
       let none : cells_in format streams n q clock ≡ [] =
       no_cells clock format (track_at format n) (streams n q).times (streams n q).indexes
-      (came_times (file_at files (path_in disk.stepping disk.dumps (track_at format n) q)) (streams n q) (of n q known few) passed) in
+      (came_times (track_in disk.stepping disk.dumps files (track_at format n) q) (streams n q) (of n q known few) passed) in
       let alone = (laws.own format image n is known).alone (drop place (cells_in format streams n q clock)) sector bytes here in
       let empty : length (cells_in format streams n q clock) ≡ 0 = ap length none in
       let rest = length-drop place (cells_in format streams n q clock) in
@@ -156,8 +157,8 @@ module _ (laws : Laws) (disk : DumpDisk) (came : Streams) (files : List File) (o
       stream_is : (stream : List ℕ) → Begins disk files n q stream → first_fault stream ≡ None
           → streams n q ≡ record { fault = None; passed = None; times = times stream; indexes = indexes stream }
       stream_is stream begins sound =
-          same ∙ file_says disk files n q few ∙ ap seen_of begins.there
-          ∙ begin_seen laws.stay stream begins.later begins.file.bytes begins.is sound
+          same ∙ track_says disk files n q few ∙ ap seen_of begins.there
+          ∙ begin_seen laws.stay stream begins.later begins.bytes begins.is sound
 
       cells_are : (clock : Clock) (stream : List ℕ) → Begins disk files n q stream → first_fault stream ≡ None
           → cells_in format streams n q clock ≡ cells_by clock format track (times stream) (indexes stream)

@@ -1,6 +1,7 @@
--- The dumps that a reader answers for: files whose streams capture the tracks of a disk, whole or
--- erased in parts, and others that are passed over.
-use Rattle.std.specs.Prelude.{◌≡◌, ◌⊎◌, ℕ, ◌∷◌, ◌++◌, List, map, Option, Some, true, is_some, option_and_then}
+-- The dumps that a reader answers for: those whose streams capture the tracks of a disk, whole or
+-- erased in parts, in files of KryoFlux streams or in SCP files, and others that are passed over.
+use Rattle.std.specs.Prelude.{◌≡◌, ◌⊎◌, ℕ, ◌∷◌, ◌++◌, List, map, Option, Some, Result, Ok, true}
+use Rattle.std.specs.Prelude.{is_some, option_and_then}
 use Rattle.std.specs.List.{slice_get}
 use Rattle.dump_reading.specs.Outcomes.{DumpDisk}
 use Rattle.flux_engine.specs.Captures.{Capture, ErasedCapture, IsSteady, IsSteadyErased}
@@ -10,27 +11,29 @@ use Rattle.flux_engine.specs.Rings.{nominal_of, ring_of}
 use Rattle.law_captured_disks.specs.Frames.{ring_piece, written_track}
 use Rattle.law_decoded_rings.specs.Pieces.{RingPiece}
 use Rattle.law_decoded_rings.specs.Verdicts.{LiesInOnePiece}
+use Rattle.scp_files.specs.declared.fault.ScpTrackFault.{ScpTrackFault}
 use Rattle.sector_report.specs.declared.dump_lines.Passed.TheVariants.{Failed}
-use Rattle.track_shelf.specs.Files.{File, file_at}
-use Rattle.track_shelf.specs.Names.{path_text}
+use Rattle.track_shelf.specs.Files.{File, dump_track}
 use Rattle.track_shelf.specs.Stepping.{file_track}
 
--- the file of track number n in the dump of this number, if it is there
-abbrev pub file_on : DumpDisk → List File → (n dump : ℕ) → Option File
-file_on disk files n dump =
+-- what the dump of this number has of track number n: the bytes of its file, or of the stream that
+-- its track of an SCP file stands for, or why that is refused
+abbrev pub track_on : DumpDisk → List File → (n dump : ℕ)
+    → Option (Result (List ℕ) ScpTrackFault)
+track_on disk files n dump =
     option_and_then
-    (λ name. file_at files (path_text name (file_track disk.stepping (track_at disk.format n))))
+    (λ name. dump_track files name (file_track disk.stepping (track_at disk.format n)))
     (slice_get disk.dumps dump)
 
--- there is such a file, and it begins with these bytes
+-- it has bytes of it, and they begin with these
 pub record Begins (disk : DumpDisk) (files : List File) (n dump : ℕ)
     (stream : List ℕ) : Type 0 where
-  pub file : File
-  pub there : file_on disk files n dump ≡ Some file
+  pub bytes : List ℕ
+  pub there : track_on disk files n dump ≡ Some (Ok bytes)
   pub later : List ℕ
-  pub is : file.bytes ≡ stream ++ later
+  pub is : bytes ≡ stream ++ later
 
--- The file begins with a stream that captures the track's ring, which has the image's bytes in its
+-- They begin with a stream that captures the track's ring, which has the image's bytes in its
 -- sectors, at the track's nominal cell.
 pub record Captures (disk : DumpDisk) (files : List File) (image : List ℕ)
     (n dump : ℕ) : Type 0 where

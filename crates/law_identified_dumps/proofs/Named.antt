@@ -1,5 +1,5 @@
 -- The captured disk is one of those that are tried, with every sector good.
-use Rattle.std.proofs.Common.{◌≡◌, ◌<◌, ◌⊎◌, ◌∙◌, ℕ, Bool, true, false, List, Option, Some, None, get_or, length, map, ap, sym, subst, inl, inr, arith}
+use Rattle.std.proofs.Common.{◌≡◌, ◌<◌, ◌⊎◌, ◌∙◌, ℕ, Bool, true, false, List, Option, Some, None, Result, get_or, length, map, ap, sym, subst, inl, inr, arith}
 use Rattle.std.specs.Prelude.{Contains, cond, nat_lt}
 use Rattle.std.specs.Option.{is_some}
 use Rattle.std.proofs.lemmas.List.{get_or-map, length-map}
@@ -31,6 +31,7 @@ use Rattle.sector_images.specs.declared.format.Format.TheVariants.{Numbered}
 use Rattle.told_disks.specs.Named.{is_covered}
 use Rattle.told_disks.specs.declared.disks.NumberedDisk.{NumberedDisk}
 use Rattle.told_disks.specs.declared.heads.NamedHeads.TheVariants.{Own}
+use Rattle.scp_files.specs.declared.fault.ScpTrackFault.{ScpTrackFault}
 use Rattle.track_shelf.specs.Files.{File}
 use Rattle.law_identified_dumps.specs.Headline.{AreAllGood, IsCapturedAlone, IsTriedGood}
 
@@ -61,7 +62,7 @@ module _ (found : CapturedDisksAreFound) (good : CapturedDumpsAreCalledGood) (so
   abbrev on_its_dump : (n : ℕ) → Captures (disk_of dump disk.stepping format) files image n 0 → Captures (on_dump dump disk) files image n 0
   on_its_dump n c = record {
     stream = c.stream;
-    begins = record { file = c.begins.file; there = c.begins.there; later = c.begins.later; is = c.begins.is };
+    begins = record { bytes = c.begins.bytes; there = c.begins.there; later = c.begins.later; is = c.begins.is };
     capture = c.capture;
   }
 
@@ -93,7 +94,7 @@ module _ (found : CapturedDisksAreFound) (good : CapturedDumpsAreCalledGood) (so
       let low = some format in
       let c = (captured.captured 0 low).0 in
       list_any_at (has_file disk.stepping files dump) (tracks format) 0 (record { cylinder = 0; head = 0 }) low
-      (ap (has_file disk.stepping files dump) (sym (unwrap_or-slice_get (tracks format) 0 (record { cylinder = 0; head = 0 }))) ∙ ap (λ (f : Option File). is_some f) c.begins.there)
+      (ap (has_file disk.stepping files dump) (sym (unwrap_or-slice_get (tracks format) 0 (record { cylinder = 0; head = 0 }))) ∙ ap (λ (it : Option (Result (List ℕ) ScpTrackFault)). is_some it) c.begins.there)
 
   totals_good : (k : ℕ) (candidate : Candidate) (totals : Option DumpTotals) → candidate ≡ by_numbers disk → ComesTo dump start.told.files (came_for is.files k) candidate totals → AreAllGood totals
   totals_good k candidate None same empty =

@@ -30,8 +30,7 @@ use Rattle.told_disks.specs.Told.{IsLookedAt, Reaches, sets_by}
 use Rattle.told_disks.specs.declared.disks.NumberedDisk.{NumberedDisk}
 use Rattle.told_disks.specs.declared.heads.NamedHeads.TheVariants.{Own}
 use Rattle.track_rings.specs.Rings.{IsSectorNumber}
-use Rattle.track_shelf.specs.Files.{File, file_at}
-use Rattle.track_shelf.specs.Names.{path_text}
+use Rattle.track_shelf.specs.Files.{File, dump_track}
 use Rattle.track_shelf.specs.Stepping.{file_track}
 use Rattle.track_shelf.specs.declared.stepping.Stepping.{Stepping}
 use Rattle.track_shelf.specs.declared.stepping.Stepping.TheVariants.{Single, Double}
@@ -56,7 +55,7 @@ begin_seen stay stream later bytes begins sound =
 pub erased_only : Laws → ErasedFilesHaveNoOtherSector
 erased_only laws dump files disk image n is known c =
     subst (HasNoOtherSector disk.disk (track_at (Numbered disk.disk) n))
-    (sym (ap seen_of c.begins.there ∙ begin_seen laws.stay c.stream c.begins.later c.begins.file.bytes c.begins.is c.capture.no_fault))
+    (sym (ap seen_of c.begins.there ∙ begin_seen laws.stay c.stream c.begins.later c.begins.bytes c.begins.is c.capture.no_fault))
     (only_own laws disk.disk n c.stream (laws.no_others.erased (Numbered disk.disk) image c.stream n is known c.capture))
 
 -- none of some streams failed
@@ -88,9 +87,9 @@ file_number Single k = k
 file_number Double k = double_file k
 
 module _ (dump : List ℕ) (files : List File) (disks : List NumberedDisk) (told : AreToldBy dump files disks) where
-  -- what a file says
+  -- what the dump says of a track
   abbrev says : TrackId → Seen
-  says track = seen_of (file_at files (path_text dump track))
+  says track = seen_of (dump_track files dump track)
 
   came_is : (k : ℕ) → k < 198 → seen_at told.came k ≡ says (track_number k)
   came_is k low =
@@ -145,7 +144,7 @@ module _ (dump : List ℕ) (files : List File) (disks : List NumberedDisk) (told
       stream_says : says_of (track_at (Numbered disk.disk) n) ≡ seen_in c.captures.stream
       stream_says =
           ap seen_of c.captures.begins.there
-          ∙ begin_seen laws.stay c.captures.stream c.captures.begins.later c.captures.begins.file.bytes c.captures.begins.is c.captures.capture.no_fault
+          ∙ begin_seen laws.stay c.captures.stream c.captures.begins.later c.captures.begins.bytes c.captures.begins.is c.captures.capture.no_fault
 
       owns_on : (number : ℕ) → IsSectorNumber sectors.first_sector sectors.sectors number
           → HasNamed Own its_rate (says_of (track_at (Numbered disk.disk) n)) (track_at (Numbered disk.disk) n) sectors.size number

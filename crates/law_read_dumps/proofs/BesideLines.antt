@@ -19,7 +19,7 @@ use Rattle.flux_engine.specs.lemmas.Pieces.{pieces-at, range-more}
 use Rattle.sector_report.specs.DumpLines.{DumpsHaveLines, passed_text}
 use Rattle.sector_report.specs.LineLaws.{IsOneLine}
 use Rattle.sector_report.specs.declared.dump_lines.Passed.{Passed}
-use Rattle.sector_report.specs.declared.dump_lines.Passed.TheVariants.{Absent, Failed, Refused}
+use Rattle.sector_report.specs.declared.dump_lines.Passed.TheVariants.{Absent, Failed, Refused, RefusedScp}
 use Rattle.track_shelf.specs.Files.{File}
 use Rattle.turn_merge.specs.Others.{NotedOther, has_untold, others_over}
 use Rattle.law_read_dumps.specs.Lines.{IsTrackLine, LookedAt, of_others, other_lines_of, told_of}
@@ -37,6 +37,7 @@ passed-told q None = refl
 passed-told q (Some Absent) = refl
 passed-told q (Some Failed) = refl
 passed-told q (Some (Refused block fault)) = refl
+passed-told q (Some (RefusedScp fault)) = refl
 
 -- a stream has as many lines at each number
 passed-length : (q : ℕ) (why : Option Passed) → length (passed_one q (told_of why)) ≡ length (passed_beside 0 why)

@@ -1,11 +1,12 @@
 -- The streams that came of dumps are those of their files, and the files decide what they come to, with those of them that failed.
-use Rattle.std.specs.Prelude.{◌≡◌, ◌<◌, ℕ, zero, suc, ◌+◌, ◌*◌, ◌/◌, ◌%◌, true, false, List, [], get_or, length, Option, None, Some, refl}
-use Rattle.std.proofs.Common.{ap, sym, subst, ◌∙◌, arith, inl, inr}
+use Rattle.std.specs.Prelude.{◌≡◌, ◌<◌, ℕ, zero, suc, ◌+◌, ◌*◌, ◌/◌, ◌%◌, List, [], get_or, length, Option, None, Some, Result, refl}
+use Rattle.std.proofs.Common.{ap, sym, subst, ◌∙◌, arith}
 use Rattle.std.proofs.Math.Nat.{mod-lt, mul_comm}
 use Rattle.std.proofs.lemmas.List.{ext_get_or}
 use Rattle.std.proofs.lemmas.Nat.{div-add-mod', mul-add-lt}
 use Rattle.dump_reading.specs.Beside.{LinesOf, beside_at, captures_at, lines_to, near_track, of_beside}
-use Rattle.dump_reading.specs.DumpStreams.{AreOfDumps, DumpTracks, FailedAlike, IsOrFailed, of_disk, passed_over, path_at, seen_of, seen_unless}
+use Rattle.dump_reading.specs.DumpStreams.{AreOfDumps, DumpTracks, FailedAlike, IsOrFailed, of_disk, seen_of, track_in}
+use Rattle.dump_reading.specs.lemmas.Alike.{one-stream}
 use Rattle.dump_reading.specs.Outcomes.{AreTracksBy, DumpDisk, DumpsRead, IsDumpsRead, IsReadBy, beside_count, numbers_of, plan_of}
 use Rattle.dump_reading.specs.Reports.{read_part}
 use Rattle.dump_reading.specs.declared.totals.DumpTotals.{DumpTotals}
@@ -13,46 +14,20 @@ use Rattle.flux_engine.specs.Counts.{AreOthersOver}
 use Rattle.flux_engine.specs.Disks.{totals_over}
 use Rattle.flux_engine.specs.LoopProgress.{seen_at, streams_over}
 use Rattle.flux_engine.specs.PlanLaws.{ReadingsInPlansAreOne}
-use Rattle.flux_engine.specs.Plans.{AreNamesTo, ArePlannedParts, PartOf, Seen, Streams, is_failed}
+use Rattle.flux_engine.specs.Plans.{AreNamesTo, ArePlannedParts, PartOf, Seen, Streams}
 use Rattle.flux_engine.specs.Rules.{RulesAreRead}
 use Rattle.flux_engine.specs.lemmas.OneParts.{one_names_to, one_others_to, one_parts}
 use Rattle.flux_engine.specs.Tracks.{TrackPart}
 use Rattle.flux_engine.specs.declared.plan.Plan.{Plan}
-use Rattle.kryo_stream.specs.Stream.{first_fault}
-use Rattle.kryo_stream.specs.declared.fault.StreamFault.{StreamFault}
+use Rattle.scp_files.specs.declared.fault.ScpTrackFault.{ScpTrackFault}
 use Rattle.sector_images.specs.declared.format.Format.{Format}
-use Rattle.sector_report.specs.declared.dump_lines.Passed.TheVariants.{Failed}
-use Rattle.track_shelf.specs.Files.{File, file_at}
+use Rattle.track_shelf.specs.Files.{File}
 use Rattle.turn_merge.specs.Others.{NotedOther}
 use Rattle.law_captured_plans.specs.Said.{IsSaid}
 use Rattle.law_read_dumps.specs.Said.{AllOfDumpsIsOne, BesideStreamsAreOfFiles, StreamsAreOfFiles, as_planned, came_in}
 
 abbrev pub none_seen : Seen
 none_seen = record { fault = None; passed = None; times = []; indexes = [] }
-
--- what a file says is never that it failed
-says_no_failure : (file : Option File) → is_failed (seen_of file).passed ≡ false
-says_no_failure None = refl
-says_no_failure (Some file) = by_fault file.bytes (first_fault file.bytes)
-  where
-    by_fault : (bytes : List ℕ) (fault : Option (ℕ × StreamFault)) → is_failed (seen_unless bytes fault).passed ≡ false
-    by_fault bytes None = refl
-    by_fault bytes (Some fault) = refl
-
--- so what a file says and one that failed are not alike
-not_alike : (file : Option File) (a b : Seen) → a ≡ seen_of file → b ≡ passed_over Failed → is_failed a.passed ≡ is_failed b.passed → ⊥
-not_alike file a b p q alike =
-    not_both (sym (says_no_failure file) ∙ sym (ap (λ (s : Seen). is_failed s.passed) p) ∙ alike ∙ ap (λ (s : Seen). is_failed s.passed) q)
-  where
-    not_both : false ≡ true → ⊥
-    not_both is = cc
-
--- two streams of one file are one, where both failed or none did
-one_stream : (file : Option File) (a b : Seen) → IsOrFailed a (seen_of file) → IsOrFailed b (seen_of file) → is_failed a.passed ≡ is_failed b.passed → a ≡ b
-one_stream file a b (inl p) (inl q) alike = p ∙ sym q
-one_stream file a b (inr p) (inr q) alike = p ∙ sym q
-one_stream file a b (inl p) (inr q) alike = absurd (not_alike file a b p q alike)
-one_stream file a b (inr p) (inl q) alike = absurd (not_alike file b a q p (sym alike))
 
 -- what has a number has a count
 some_of : (i a count : ℕ) → i < a * count → 0 < count
@@ -71,14 +46,18 @@ number_low of disk shelf streams parts read n q known low = place_low (length st
 
 -- each stream of some tracks has its place among those that came
 module _ (of : DumpTracks) (files : List File) (tracks : ℕ) (many : of.count ≡ length of.dumps) where
+  -- what a dump has of its track
+  abbrev lies : (i : ℕ) → Option (Result (List ℕ) ScpTrackFault)
+  lies i = track_in of.stepping of.dumps files (of.track_of (i / of.count)) (i % of.count)
+
   at_place : (streams : List Seen) → length streams ≡ tracks * of.count → AreOfDumps of (Some files) streams → (i : ℕ) → i < length streams
-      → IsOrFailed (seen_at streams i) (seen_of (file_at files (path_at of i)))
+      → IsOrFailed (seen_at streams i) (seen_of (lies i))
   at_place streams all are i low =
       let below : i < tracks * of.count = omega (arith, low, all) in
       let positive : 0 < of.count = some_of i tracks of.count below in
       let dump : i % of.count < of.count = mod-lt i positive in
       let same : i / of.count * of.count + i % of.count ≡ i = div-add-mod' i of.count in
-      subst (λ (k : ℕ). IsOrFailed (seen_at streams k) (seen_of (file_at files (path_at of i)))) same
+      subst (λ (k : ℕ). IsOrFailed (seen_at streams k) (seen_of (lies i))) same
       (are files refl (i / of.count) (i % of.count) (omega (arith, dump, many)) dump (omega (arith, low, same)))
 
   -- so the files decide what came of them, with those that failed
@@ -87,7 +66,7 @@ module _ (of : DumpTracks) (files : List File) (tracks : ℕ) (many : of.count �
   one_came a b p q first second alike =
       ext_get_or none_seen a b (p ∙ sym q)
       (λ i low.
-      one_stream (file_at files (path_at of i)) (seen_at a i) (seen_at b i) (at_place a p first i low) (at_place b q second i (omega (arith, low, p, q)))
+      one-stream (lies i) (seen_at a i) (seen_at b i) (at_place a p first i low) (at_place b q second i (omega (arith, low, p, q)))
       (alike i low (omega (arith, low, p, q))))
 
 -- the others of a track are decided by its streams

@@ -2,7 +2,7 @@
 use Rattle.std.specs.Prelude.{◌≡◌, ◌<◌, ℕ, List, length, None, Option, Some}
 use Rattle.disk_recordings.specs.Members.{header_at, sector_at}
 use Rattle.dump_reading.specs.Beside.{LinesOf, beside_at, captures_at}
-use Rattle.dump_reading.specs.DumpStreams.{FailedAlike, IsOrFailed, path_in, seen_of}
+use Rattle.dump_reading.specs.DumpStreams.{FailedAlike, IsOrFailed, seen_of, track_in}
 use Rattle.dump_reading.specs.Outcomes.{DumpDisk, DumpsRead, IsDumpsRead, IsReadBy, LookedBeside}
 use Rattle.dump_reading.specs.Outcomes.{plan_of}
 use Rattle.dump_reading.specs.declared.totals.DumpTotals.{DumpTotals}
@@ -18,7 +18,7 @@ use Rattle.flux_engine.specs.Tracks.{Found, TrackPart, readings_in}
 use Rattle.frame_law.specs.Readings.{AreReadings}
 use Rattle.law_captured_plans.specs.Said.{IsSaid}
 use Rattle.sector_images.specs.Places.{tracks}
-use Rattle.track_shelf.specs.Files.{File, file_at}
+use Rattle.track_shelf.specs.Files.{File}
 use Rattle.turn_merge.specs.Readings.{NotedReading, verdict}
 use Rattle.turn_merge.specs.declared.clock.Clock.{Clock}
 use Rattle.turn_merge.specs.declared.verdict.Place.{Place}
@@ -32,15 +32,16 @@ abbrev pub came_in : {of : PartOf} {beside_of : LinesOf}
     → IsReadBy of beside_of whole disk told o → Streams
 came_in {of} {beside_of} {whole} {disk} is = streams_over (plan_of disk) is.streams
 
--- what the file of a track says in the dump of this number
+-- what the dump of this number says of a track
 abbrev pub says_in : DumpDisk → List File → TrackId → (dump : ℕ) → Seen
 says_in disk files track dump =
-    seen_of (file_at files (path_in disk.stepping disk.dumps track dump))
+    seen_of (track_in disk.stepping disk.dumps files track dump)
 
 abbrev pub says_on : DumpDisk → List File → (n dump : ℕ) → Seen
 says_on disk files n dump = says_in disk files (track_at disk.format n) dump
 
--- each stream that came is what its file says, or the file failed, and the stream is passed over
+-- each stream that came is what its dump says of the track, or the file failed, and the stream is
+-- passed over
 abbrev pub AreOfFiles : DumpDisk → Streams → List File → Type 0
 AreOfFiles disk came files = (n dump : ℕ) → n < length (tracks disk.format)
     → dump < length disk.dumps → IsOrFailed (came n dump) (says_on disk files n dump)

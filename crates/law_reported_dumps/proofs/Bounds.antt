@@ -1,6 +1,6 @@
 -- How much can be read of a track as controllers read: no more headers than there are cells, and no more data of each. So the numbers of
 -- the lines of dumps fit in 64 bits.
-use Rattle.std.specs.Prelude.{◌≡◌, ◌≤◌, ◌<◌, ◌⊎◌, ◌^◌, ℕ, zero, suc, ◌+◌, ◌-◌, ◌*◌, Bool, List, [], ◌∷◌, drop, flat_map, get_or, length, map, nat_le, slice_index, Option, None, Some, refl}
+use Rattle.std.specs.Prelude.{◌≡◌, ◌≤◌, ◌<◌, ◌⊎◌, ◌^◌, ℕ, zero, suc, ◌+◌, ◌-◌, ◌*◌, Bool, List, [], ◌∷◌, drop, flat_map, get_or, length, map, nat_le, slice_index, Option, None, Some, Result, Ok, Err, refl}
 use Rattle.std.specs.List.Sorted.{IsStrictlyIncreasing}
 use Rattle.std.proofs.Common.{ap, sym, subst, arith, inl, inr, length-append, lit<}
 use Rattle.std.proofs.Math.Nat.{mul-le-mul_left, mul-suc}
@@ -9,7 +9,7 @@ use Rattle.std.proofs.lemmas.List.{length-drop, length-map}
 use Rattle.std.proofs.lemmas.List.Sums.{count_by-le-length}
 use Rattle.disk_recordings.specs.Laws.{DataAreRead, NamesAreTold}
 use Rattle.disk_recordings.specs.Members.{as_controllers_read, data_at, header_at}
-use Rattle.dump_reading.specs.DumpStreams.{IsOrFailed, path_in, seen_of, seen_unless}
+use Rattle.dump_reading.specs.DumpStreams.{IsOrFailed, seen_of, seen_unless, track_in}
 use Rattle.dump_reading.specs.Outcomes.{DumpDisk, plan_of}
 use Rattle.flux_base.specs.declared.track.TrackId.{TrackId}
 use Rattle.flux_engine.specs.Captured.{AreReadingsBy, IsUsed, joined_by}
@@ -34,7 +34,8 @@ use Rattle.sector_images.specs.Places.{IsSector, NumbersNameTracks, TracksKeepBo
 use Rattle.sector_images.specs.declared.format.Format.{Format}
 use Rattle.sector_report.specs.LineLaws.{LineFits}
 use Rattle.sector_report.specs.declared.naming.Naming.TheVariants.{ByCaptureAndClock}
-use Rattle.track_shelf.specs.Files.{File, file_at}
+use Rattle.scp_files.specs.declared.fault.ScpTrackFault.{ScpTrackFault}
+use Rattle.track_shelf.specs.Files.{File}
 use Rattle.turn_merge.specs.Readings.{NotedReading, verdict}
 use Rattle.turn_merge.specs.declared.clock.Clock.{Clock}
 use Rattle.turn_merge.specs.declared.clock.Clock.TheVariants.{Following, Held}
@@ -223,18 +224,19 @@ module _ (laws : Laws) where
   short_unless bytes None is = laws.short bytes is
   short_unless bytes (Some fault) is = (omega arith, omega arith)
 
-  short_of : (file : Option File) → IsShort (seen_of file)
+  short_of : (it : Option (Result (List ℕ) ScpTrackFault)) → IsShort (seen_of it)
   short_of None = (omega arith, omega arith)
-  short_of (Some file) = short_unless file.bytes (first_fault file.bytes) refl
+  short_of (Some (Err fault)) = (omega arith, omega arith)
+  short_of (Some (Ok bytes)) = short_unless bytes (first_fault bytes) refl
 
   -- the streams of a track that are those of its files, or whose files failed
-  short_by : (file : Option File) (came : Seen) → IsOrFailed came (seen_of file) → IsShort came
+  short_by : (file : Option (Result (List ℕ) ScpTrackFault)) (came : Seen) → IsOrFailed came (seen_of file) → IsShort came
   short_by file came (inl same) = subst IsShort (sym same) (short_of file)
   short_by file came (inr failed) = subst IsShort (sym failed) (omega arith, omega arith)
 
   pub short_came : (disk : DumpDisk) (came : Streams) (files : List File) → AreOfFiles disk came files → (n : ℕ) → n < length (tracks disk.format) → (q : ℕ) → q < length disk.dumps
       → IsShort (came n q)
-  short_came disk came files of n low q few = short_by (file_at files (path_in disk.stepping disk.dumps (track_at disk.format n) q)) (came n q) (of n q low few)
+  short_came disk came files of n low q few = short_by (track_in disk.stepping disk.dumps files (track_at disk.format n) q) (came n q) (of n q low few)
 
   module _ (disk : DumpDisk) (came : Streams) (most : length disk.dumps ≤ 16) (n : ℕ) (short : (q : ℕ) → q < length disk.dumps → IsShort (came n q))
       (captures : List (List NotedReading)) (many : length captures ≡ length disk.dumps)

@@ -15,9 +15,10 @@ use Rattle.flux_base.specs.declared.track.TrackId.{TrackId}
 use Rattle.flux_base.specs.lemmas.Digits.{of_digits}
 use Rattle.sector_report.specs.DumpLines.{dump_name, name_text, other_text, passed_text, traces_text, unread_text, untold_text}
 use Rattle.sector_report.specs.LineLaws.{LineFits}
+use Rattle.sector_report.specs.ScpLines.{scp_fault_text}
 use Rattle.sector_report.specs.Lines.{fault_text, named_text, place_text, sector_name, total_text, two_digits, verdict_text}
 use Rattle.sector_report.specs.declared.dump_lines.Passed.{Passed}
-use Rattle.sector_report.specs.declared.dump_lines.Passed.TheVariants.{Absent, Failed, Refused}
+use Rattle.sector_report.specs.declared.dump_lines.Passed.TheVariants.{Absent, Failed, Refused, RefusedScp}
 use Rattle.sector_report.specs.declared.naming.Naming.{Naming}
 use Rattle.sector_report.specs.declared.totals.Totals.{Totals}
 use Rattle.turn_merge.specs.declared.others.OtherTold.{OtherTold}
@@ -172,11 +173,15 @@ refused_shape : (name block fault : List ℕ)
     → (((name ++ (codes "refused block " ++ block)) ++ codes " ") ++ fault) ++ codes "\n" ≡ name ++ (codes "refused" ++ 32 ∷ (codes "block " ++ block ++ codes " " ++ fault ++ codes "\n"))
 refused_shape name block fault = simp append_assoc
 
+refused_scp_shape : (name fault : List ℕ) → ((name ++ codes "refused scp ") ++ fault) ++ codes "\n" ≡ name ++ (codes "refused" ++ 32 ∷ (codes "scp " ++ fault ++ codes "\n"))
+refused_scp_shape name fault = simp append_assoc
+
 -- the first word of the reason
 abbrev reason_word : Passed → List ℕ
 reason_word Absent = codes "missing\n"
 reason_word Failed = codes "failed\n"
 reason_word (Refused block fault) = codes "refused"
+reason_word (RefusedScp fault) = codes "refused"
 
 pub passed_words : (track : TrackId) (dump : ℕ) (why : Passed)
     → (rest : List (List ℕ)) × (words (passed_text track dump why) ≡ name_of track ∷ codes "dump" ∷ decimal dump ∷ reason_word why ∷ rest)
@@ -187,6 +192,13 @@ passed_words track dump (Refused block fault) =
     let rest : List ℕ = codes "block " ++ decimal block ++ codes " " ++ fault_text fault ++ codes "\n" in (
       words rest,
       ap words (refused_shape (dump_name track dump) (decimal block) (fault_text fault))
+          ∙ dump_words track dump (codes "refused" ++ 32 ∷ rest)
+          ∙ ap (λ (ws : List (List ℕ)). name_of track ∷ codes "dump" ∷ decimal dump ∷ ws) (next (codes "refused") rest word-refused),
+    )
+passed_words track dump (RefusedScp fault) =
+    let rest : List ℕ = codes "scp " ++ scp_fault_text fault ++ codes "\n" in (
+      words rest,
+      ap words (refused_scp_shape (dump_name track dump) (scp_fault_text fault))
           ∙ dump_words track dump (codes "refused" ++ 32 ∷ rest)
           ∙ ap (λ (ws : List (List ℕ)). name_of track ∷ codes "dump" ∷ decimal dump ∷ ws) (next (codes "refused") rest word-refused),
     )
@@ -235,11 +247,13 @@ missing_by : (why : Passed) → reason_word why ≡ codes "missing\n" → why �
 missing_by Absent word = refl
 missing_by Failed word = (let sizes : 7 ≡ 8 = ap (λ (word : List ℕ). length word) word in absurd (omega (arith, sizes)))
 missing_by (Refused block fault) word = (let sizes : 7 ≡ 8 = ap (λ (word : List ℕ). length word) word in absurd (omega (arith, sizes)))
+missing_by (RefusedScp fault) word = (let sizes : 7 ≡ 8 = ap (λ (word : List ℕ). length word) word in absurd (omega (arith, sizes)))
 
 failed_by : (why : Passed) → reason_word why ≡ codes "failed\n" → why ≡ Failed
 failed_by Absent word = (let sizes : 8 ≡ 7 = ap (λ (word : List ℕ). length word) word in absurd (omega (arith, sizes)))
 failed_by Failed word = refl
 failed_by (Refused block fault) word = (let first : 114 ≡ 102 = ap (λ (word : List ℕ). get_or word 0 0) word in absurd (omega (arith, first)))
+failed_by (RefusedScp fault) word = (let first : 114 ≡ 102 = ap (λ (word : List ℕ). get_or word 0 0) word in absurd (omega (arith, first)))
 
 pub missing_is_missing : (track : TrackId) (dump : ℕ) (why : Passed) (other : TrackId) (another : ℕ)
     → passed_text track dump why ≡ passed_text other another Absent → why ≡ Absent

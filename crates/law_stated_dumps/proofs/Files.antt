@@ -1,16 +1,21 @@
 -- The file of a track in a dump is the first that has its path, and the bytes with which it begins.
-use Rattle.std.specs.Prelude.{◌≡◌, ◌≢◌, ◌<◌, ℕ, All, Bool, true, false, List, [], ◌∷◌, ◌++◌, cond, drop, length, refl, slice_get, slice_index, take, Option, Some, None, option_and_then}
+use Rattle.std.specs.Prelude.{◌≡◌, ◌≢◌, ◌<◌, ◌⊎◌, ℕ, All, Bool, true, false, List, [], ◌∷◌, ◌++◌, cond, drop, length, refl, slice_get, slice_index, take, Option, Some, None, Result, Ok, Err, option_and_then}
 use Rattle.std.specs.Bool.{Decides}
-use Rattle.std.proofs.Common.{arith, ap, sym, subst, ◌∙◌, length-append}
+use Rattle.std.proofs.Common.{arith, ap, sym, subst, ◌∙◌, inl, inr, length-append}
 use Rattle.std.proofs.lemmas.Grind.{same_number_lists}
 use Rattle.std.proofs.lemmas.List.{get_or-take, get_or_append_left, length-take-le, take-append-drop}
 use Rattle.std.proofs.lemmas.List.Elements.{All-cons, All-head, All-nil, All-tail}
 use Rattle.std.proofs.lemmas.Slice.Eq.{bytes_eq-Decides}
 use Rattle.dump_reading.specs.Outcomes.{DumpDisk}
-use Rattle.law_captured_dumps.specs.Inputs.{file_on}
-use Rattle.law_stated_dumps.specs.Dumps.{BeginWith, IsFileOf, LacksFile, path_in}
+use Rattle.dump_reading.specs.lemmas.DumpTracks.{in_file, of-file, of-scp}
+use Rattle.flux_base.specs.declared.track.TrackId.{TrackId}
+use Rattle.law_captured_dumps.specs.Inputs.{track_on}
+use Rattle.law_stated_dumps.specs.Dumps.{BeginWith, HasBytes, HasTrack, IsFileOf, LacksFile, LacksTrack, file_on, lies_on, path_in}
+use Rattle.scp_files.specs.Disks.{scp_track}
+use Rattle.scp_files.specs.declared.fault.ScpTrackFault.{ScpTrackFault}
 use Rattle.law_stated_dumps.specs.Laws.{FilesAreStated, StreamsOfFilesAreStated}
-use Rattle.track_shelf.specs.Files.{File, file_at, has_path}
+use Rattle.track_shelf.specs.Files.{File, dump_track, file_at, has_path, scp_track_in}
+use Rattle.track_shelf.specs.Names.{ScpDumpsAreFiles, is_scp, path_text}
 
 same_some : (a b : File) → Some a ≡ Some b → a ≡ b
 same_some a b is = cc
@@ -89,13 +94,14 @@ module _ (path : List ℕ) where
   others (one ∷ files) is = others_by one files (has_path path one) refl is (others files)
 
 module _ (disk : DumpDisk) (files : List File) (n dump : ℕ) where
-  abbrev by_name : List ℕ → Option File
+  abbrev pub by_name : List ℕ → Option File
   by_name name = file_at files (path_in disk name n)
 
+  found : (file : File) (is : IsFileOf disk files n dump file) → file_at files (path_in disk is.name n) ≡ Some file
+  found file is = subst (λ (fs : List File). file_at fs (path_in disk is.name n) ≡ Some file) is.lies (at (path_in disk is.name n) is.before file is.behind is.path is.none_before)
+
   pub there : (file : File) → IsFileOf disk files n dump file → file_on disk files n dump ≡ Some file
-  there file is =
-      ap (option_and_then by_name) is.named
-      ∙ subst (λ (fs : List File). file_at fs (path_in disk is.name n) ≡ Some file) is.lies (at (path_in disk is.name n) is.before file is.behind is.path is.none_before)
+  there file is = ap (option_and_then by_name) is.named ∙ found file is
 
   file_by : (file : File) (name : Option (List ℕ)) → slice_get disk.dumps dump ≡ name → option_and_then by_name name ≡ Some file → IsFileOf disk files n dump file
   file_by file None named is = absurd (not_none file is)
@@ -116,10 +122,119 @@ module _ (disk : DumpDisk) (files : List File) (n dump : ℕ) where
   pub lacks : file_on disk files n dump ≡ None → LacksFile disk files n dump
   lacks is name named = others (path_in disk name n) files (sym (ap (option_and_then by_name) named) ∙ is)
 
-pub files_are : FilesAreStated
-files_are = record {
+-- what a dump may have of a track
+abbrev Has : Type 0
+Has = Option (Result (List ℕ) ScpTrackFault)
+
+pub none_ok : (it : Has) (bytes : List ℕ) → it ≡ None → it ≡ Some (Ok bytes) → ⊥
+none_ok it bytes none is = cc
+
+same_bytes : (it : Has) (a b : List ℕ) → it ≡ Some (Ok a) → it ≡ Some (Ok b) → b ≡ a
+same_bytes it a b one other = cc
+
+-- what a dump has of a track
+module _ (whole : ScpDumpsAreFiles) (disk : DumpDisk) (files : List File) (n dump : ℕ) where
+  abbrev track : TrackId
+  track = lies_on disk n
+
+  abbrev by_track : List ℕ → Has
+  by_track name = dump_track files name track
+
+  -- of an SCP file, which is there
+  in_scp : (name : List ℕ) (file : File) → is_scp name ≡ true → file_at files (path_in disk name n) ≡ Some file → by_track name ≡ scp_track file.bytes track
+  in_scp name file scp is =
+      of-scp files name track scp ∙ ap (λ (f : Option File). scp_track_in f track) (sym (ap (file_at files) (whole name track scp)) ∙ is)
+
+  -- of another dump
+  in_other : (name : List ℕ) (file : File) → is_scp name ≡ false → file_at files (path_in disk name n) ≡ Some file → by_track name ≡ Some (Ok file.bytes)
+  in_other name file other is = of-file files name track other ∙ ap in_file is
+
+  -- where there is no file, nothing
+  in_none : (name : List ℕ) → file_at files (path_in disk name n) ≡ None → by_track name ≡ None
+  in_none name gone = by (is_scp name) refl
+    where
+      by : (b : Bool) → is_scp name ≡ b → by_track name ≡ None
+      by true scp = of-scp files name track scp ∙ ap (λ (f : Option File). scp_track_in f track) (sym (ap (file_at files) (whole name track scp)) ∙ gone)
+      by false other = of-file files name track other ∙ ap in_file gone
+
+  by_bytes : (name : List ℕ) (file : File) (bytes : List ℕ) → file_at files (path_in disk name n) ≡ Some file → HasBytes disk name n file bytes → by_track name ≡ Some (Ok bytes)
+  by_bytes name file bytes is (inl own) = in_other name file own.0 is ∙ ap (λ (b : List ℕ). Some (Ok b)) (sym own.1)
+  by_bytes name file bytes is (inr scp) = in_scp name file scp.0 is ∙ scp.1
+
+  pub has_track : (bytes : List ℕ) → HasTrack disk files n dump bytes → track_on disk files n dump ≡ Some (Ok bytes)
+  has_track bytes has =
+      ap (option_and_then by_track) has.is.named ∙ by_bytes has.is.name has.file bytes (found disk files n dump has.file has.is) has.has
+
+  -- what a named dump has
+  module _ (name : List ℕ) (named : slice_get disk.dumps dump ≡ Some name) where
+    -- the file that is found is the one that is stated
+    abbrev is_file : (file : File) → file_at files (path_in disk name n) ≡ Some file → IsFileOf disk files n dump file
+    is_file file at = record {
+      name = name;
+      named = named;
+      path = (first (path_in disk name n) files file at).is;
+      before = (first (path_in disk name n) files file at).before;
+      behind = (first (path_in disk name n) files file at).behind;
+      lies = (first (path_in disk name n) files file at).lies;
+      none_before = (first (path_in disk name n) files file at).none_before;
+    }
+
+    of_scp : (bytes : List ℕ) → is_scp name ≡ true → by_track name ≡ Some (Ok bytes) → (file : Option File) → file_at files (path_in disk name n) ≡ file → HasTrack disk files n dump bytes
+    of_scp bytes scp is None at = absurd (none_ok (by_track name) bytes (in_none name at) is)
+    of_scp bytes scp is (Some file) at = record { file = file; is = is_file file at; has = inr (scp, sym (in_scp name file scp at) ∙ is) }
+
+    of_other : (bytes : List ℕ) → is_scp name ≡ false → by_track name ≡ Some (Ok bytes) → (file : Option File) → file_at files (path_in disk name n) ≡ file → HasTrack disk files n dump bytes
+    of_other bytes other is None at = absurd (none_ok (by_track name) bytes (in_none name at) is)
+    of_other bytes other is (Some file) at =
+        record { file = file; is = is_file file at; has = inl (other, same_bytes (by_track name) file.bytes bytes (in_other name file other at) is) }
+
+    pub of_track : (bytes : List ℕ) → by_track name ≡ Some (Ok bytes) → HasTrack disk files n dump bytes
+    of_track bytes is = by (is_scp name) refl
+      where
+        by : (b : Bool) → is_scp name ≡ b → HasTrack disk files n dump bytes
+        by true scp = of_scp bytes scp is (file_at files (path_in disk name n)) refl
+        by false other = of_other bytes other is (file_at files (path_in disk name n)) refl
+
+    -- it has nothing: there is no file, or an SCP file without the track
+    not_ok : (o : Has) → ((bytes : List ℕ) → o ≢ Some (Ok bytes)) → (p : Has) → p ≡ o → (bytes : List ℕ) → p ≢ Some (Ok bytes)
+    not_ok o none p same bytes is = none bytes (sym same ∙ is)
+
+    of_none : ((bytes : List ℕ) → by_track name ≢ Some (Ok bytes)) → LacksFile disk files n dump ⊎ LacksTrack disk files n dump
+    of_none none = by (file_at files (path_in disk name n)) refl (is_scp name) refl
+      where
+        by : (file : Option File) → file_at files (path_in disk name n) ≡ file → (b : Bool) → is_scp name ≡ b → LacksFile disk files n dump ⊎ LacksTrack disk files n dump
+        by None at b is = inl (lacks disk files n dump (ap (option_and_then (by_name disk files n dump)) named ∙ at))
+        by (Some file) at true scp =
+            inr (record { file = file; is = is_file file at; scp = scp; none = not_ok (by_track name) none (scp_track file.bytes track) (sym (in_scp name file scp at)) })
+        by (Some file) at false other = absurd (none file.bytes (in_other name file other at))
+
+  pub track_has : (bytes : List ℕ) → track_on disk files n dump ≡ Some (Ok bytes) → HasTrack disk files n dump bytes
+  track_has bytes is = by (slice_get disk.dumps dump) refl is
+    where
+      by : (name : Option (List ℕ)) → slice_get disk.dumps dump ≡ name → option_and_then by_track name ≡ Some (Ok bytes) → HasTrack disk files n dump bytes
+      by None named same = absurd (none_ok None bytes refl same)
+      by (Some name) named same = of_track name named bytes same
+
+  -- where there is no file, or an SCP file without the track, there are no bytes
+  pub no_bytes : LacksFile disk files n dump ⊎ LacksTrack disk files n dump → (bytes : List ℕ) → track_on disk files n dump ≢ Some (Ok bytes)
+  no_bytes (inl gone) bytes same =
+      let has = track_has bytes same in
+      not_none has.file (sym (missing disk files n dump gone) ∙ there disk files n dump has.file has.is)
+  no_bytes (inr it) bytes same =
+      it.none bytes (sym (in_scp it.is.name it.file it.scp (found disk files n dump it.file it.is)) ∙ sym (ap (option_and_then by_track) it.is.named) ∙ same)
+
+  pub bytes_none : ((bytes : List ℕ) → track_on disk files n dump ≢ Some (Ok bytes)) → LacksFile disk files n dump ⊎ LacksTrack disk files n dump
+  bytes_none none = by (slice_get disk.dumps dump) refl
+    where
+      by : (name : Option (List ℕ)) → slice_get disk.dumps dump ≡ name → LacksFile disk files n dump ⊎ LacksTrack disk files n dump
+      by None named = inl (lacks disk files n dump (ap (option_and_then (by_name disk files n dump)) named))
+      by (Some name) named = of_none name named (λ bytes same. none bytes (ap (option_and_then by_track) named ∙ same))
+
+pub files_are : ScpDumpsAreFiles → FilesAreStated
+files_are scp = record {
   there = λ disk files n dump file. (there disk files n dump file, file_of disk files n dump file);
   missing = λ disk files n dump. (missing disk files n dump, lacks disk files n dump);
+  track = λ disk files n dump bytes. (has_track scp disk files n dump bytes, track_has scp disk files n dump bytes);
 }
 
 begins : (bytes front : List ℕ) → BeginWith bytes front → bytes ≡ front ++ drop (length front) bytes
@@ -139,13 +254,13 @@ begins_with bytes front later is =
       same = λ i below. ap (λ (xs : List ℕ). slice_index xs i) is ∙ get_or_append_left front later 0 i below;
     }
 
-pub streams_are : StreamsOfFilesAreStated
-streams_are disk files n dump stream = (
+pub streams_are : ScpDumpsAreFiles → StreamsOfFilesAreStated
+streams_are scp disk files n dump stream = (
   λ has. record {
-    file = has.file;
-    there = there disk files n dump has.file has.is;
-    later = drop (length stream) has.file.bytes;
-    is = begins has.file.bytes stream has.begins;
+    bytes = has.bytes;
+    there = has_track scp disk files n dump has.bytes has.has;
+    later = drop (length stream) has.bytes;
+    is = begins has.bytes stream has.begins;
   },
-  λ begin. record { file = begin.file; is = file_of disk files n dump begin.file begin.there; begins = begins_with begin.file.bytes stream begin.later begin.is },
+  λ begin. record { bytes = begin.bytes; has = track_has scp disk files n dump begin.bytes begin.there; begins = begins_with begin.bytes stream begin.later begin.is },
 )

@@ -1,6 +1,6 @@
 -- Files of three dumps, of which one is missing and one damaged.
-use Rattle.std.specs.Prelude.{◌≡◌, ◌≢◌, ℕ, All, List, [], ◌∷◌, ◌++◌, refl, Some, None}
-use Rattle.std.proofs.Common.{arith, sym, subst, ◌∙◌, inr, length-append}
+use Rattle.std.specs.Prelude.{◌≡◌, ◌≢◌, ℕ, All, false, List, [], ◌∷◌, ◌++◌, refl, Some, None}
+use Rattle.std.proofs.Common.{arith, sym, subst, ◌∙◌, inl, inr, length-append}
 use Rattle.std.proofs.lemmas.List.{get_or_append_left}
 use Rattle.std.proofs.lemmas.List.Elements.{All-cons, All-nil}
 use Rattle.dump_reading.specs.Outcomes.{DumpDisk}
@@ -14,7 +14,7 @@ use Rattle.law_stated_dumps.specs.Dumps.{HasStream, IsFileOf, LacksFile, path_in
 use Rattle.law_stated_dumps.specs.Reached.{AreMixed, DumpsReachBounds, three_dumps}
 use Rattle.sector_images.specs.declared.format.Format.{Format}
 use Rattle.track_shelf.specs.Files.{File}
-use Rattle.track_shelf.specs.Names.{file_name_text, folder_path, names_file, path_text}
+use Rattle.track_shelf.specs.Names.{file_name_text, folder_path, is_scp, names_file, path_text}
 use Rattle.track_shelf.specs.Stepping.{file_track}
 use Rattle.track_shelf.specs.declared.stepping.Stepping.{Stepping}
 
@@ -23,7 +23,7 @@ same_letter : (one two : ℕ) (xs ys : List ℕ) → one ∷ xs ≡ two ∷ ys �
 same_letter one two xs ys is = cc
 
 begins_with : (letter : ℕ) (track : TrackId) → (rest : List ℕ) × (path_text (letter ∷ []) track ≡ letter ∷ rest)
-unfolding path_text names_file folder_path
+unfolding path_text names_file is_scp folder_path
 begins_with letter track = (47 ∷ file_name_text track, refl)
 
 differ : (first second : ℕ) (track : TrackId) → first ≢ second → path_text (first ∷ []) track ≢ path_text (second ∷ []) track
@@ -32,6 +32,11 @@ differ first second track other same =
     let two = begins_with second track in
     let both : first ∷ one.0 ≡ second ∷ two.0 = sym one.1 ∙ same ∙ two.1 in
     other (same_letter first second one.0 two.0 both)
+
+-- nor are these names of SCP files
+no_scp : (letter : ℕ) → is_scp (letter ∷ []) ≡ false
+unfolding is_scp
+no_scp letter = refl
 
 abbrev a : ℕ
 a = 97
@@ -70,13 +75,13 @@ module _ (stepping : Stepping) (format : Format) (clocks : Clocks) (looks : Look
   abbrev Other : ℕ → File → Type 0
   Other letter file = file.path ≢ path_in disk (letter ∷ []) n
 
-  is_first : IsFileOf disk files n 0 whole_file
+  abbrev is_first : IsFileOf disk files n 0 whole_file
   is_first = record { name = 97 ∷ []; named = refl; path = refl; before = []; behind = damaged_file ∷ []; lies = refl; none_before = All-nil (Other 97) }
 
   has : HasStream disk files n 0 stream
   has = record {
-    file = whole_file;
-    is = is_first;
+    bytes = stream ++ later;
+    has = record { file = whole_file; is = is_first; has = inl (no_scp 97, refl) };
     begins = record { long = (let both = length-append stream later in omega (arith, both)); same = λ i below. get_or_append_left stream later 0 i below };
   }
 
@@ -90,6 +95,7 @@ module _ (stepping : Stepping) (format : Format) (clocks : Clocks) (looks : Look
   mixed = record {
     file = whole_file;
     is = is_first;
+    a_folder = no_scp 97;
     stream = stream;
     bytes = refl;
     late = late;
@@ -101,15 +107,19 @@ module _ (stepping : Stepping) (format : Format) (clocks : Clocks) (looks : Look
     kept = record { stream = stream; has = has; kept = inr (late.capture, late.steady) };
     missing = missing;
     damaged = record {
-      file = damaged_file;
-      is = record {
-        name = 99 ∷ [];
-        named = refl;
-        path = refl;
-        before = whole_file ∷ [];
-        behind = [];
-        lies = refl;
-        none_before = All-cons (Other 99) whole_file [] (differ 97 99 (file_track stepping (track_at format n)) letters.1) (All-nil (Other 99));
+      bytes = [];
+      has = record {
+        file = damaged_file;
+        is = record {
+          name = 99 ∷ [];
+          named = refl;
+          path = refl;
+          before = whole_file ∷ [];
+          behind = [];
+          lies = refl;
+          none_before = All-cons (Other 99) whole_file [] (differ 97 99 (file_track stepping (track_at format n)) letters.1) (All-nil (Other 99));
+        };
+        has = inl (no_scp 99, refl);
       };
       fault = damaged;
     };

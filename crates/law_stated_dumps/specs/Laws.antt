@@ -1,23 +1,25 @@
 -- What dumps have of a disk's tracks is what is stated, and nothing else.
-use Rattle.std.specs.Prelude.{◌≡◌, ◌<◌, ◌⊎◌, ◌↔◌, ℕ, List, length, Some, None}
+use Rattle.std.specs.Prelude.{◌≡◌, ◌<◌, ◌⊎◌, ◌↔◌, ℕ, List, length, Some, None, Ok}
 use Rattle.dump_reading.specs.Outcomes.{DumpDisk}
 use Rattle.flux_engine.specs.Plans.{Streams}
 use Rattle.law_captured_dumps.specs.Inputs.{Begins, HasFailed, HasWhole, IsPassedOver}
-use Rattle.law_captured_dumps.specs.Inputs.{IsSteadyOrPassed, file_on}
+use Rattle.law_captured_dumps.specs.Inputs.{IsSteadyOrPassed, track_on}
 use Rattle.law_read_dumps.specs.Said.{AreOfFiles}
-use Rattle.law_stated_dumps.specs.Dumps.{HasStream, IsFileOf, IsWholeIn, KeptItsSpeedIn, LacksFile}
-use Rattle.law_stated_dumps.specs.Dumps.{SaysNothing}
+use Rattle.law_stated_dumps.specs.Dumps.{HasStream, HasTrack, IsFileOf, IsWholeIn, KeptItsSpeedIn}
+use Rattle.law_stated_dumps.specs.Dumps.{LacksFile, SaysNothing, file_on}
 use Rattle.sector_images.specs.Places.{tracks}
 use Rattle.track_shelf.specs.Files.{File}
 
--- the file of a track in a dump, and that there is none
+-- the file of a track in a dump, and that there is none, and the bytes that it has of the track
 pub record FilesAreStated : Type 0 where
   pub there : (disk : DumpDisk) (files : List File) (n dump : ℕ) (file : File)
       → IsFileOf disk files n dump file ↔ (file_on disk files n dump ≡ Some file)
   pub missing : (disk : DumpDisk) (files : List File) (n dump : ℕ)
       → LacksFile disk files n dump ↔ (file_on disk files n dump ≡ None)
+  pub track : (disk : DumpDisk) (files : List File) (n dump : ℕ) (bytes : List ℕ)
+      → HasTrack disk files n dump bytes ↔ (track_on disk files n dump ≡ Some (Ok bytes))
 
--- a file that begins with a stream
+-- a track whose bytes begin with a stream
 abbrev pub StreamsOfFilesAreStated : Type 0
 StreamsOfFilesAreStated = (disk : DumpDisk) (files : List File) (n dump : ℕ) (stream : List ℕ)
     → HasStream disk files n dump stream ↔ Begins disk files n dump stream

@@ -1,7 +1,7 @@
 -- Dumps that are no captures of the plainest kind: one whose file has other bytes behind
 -- its stream, and in it each sector in the second piece alone; one that lacks the file;
 -- and one whose file is damaged.
-use Rattle.std.specs.Prelude.{◌≡◌, ◌<◌, ℕ, List, [], ◌∷◌, ◌++◌, length}
+use Rattle.std.specs.Prelude.{◌≡◌, ◌<◌, ℕ, false, List, [], ◌∷◌, ◌++◌, length}
 use Rattle.dump_reading.specs.Outcomes.{DumpDisk}
 use Rattle.dump_reading.specs.declared.looks.Looks.{Looks}
 use Rattle.flux_engine.specs.declared.plan.Clocks.{Clocks}
@@ -12,6 +12,7 @@ use Rattle.law_stated_dumps.specs.Dumps.{IsDamaged, IsFileOf, IsWholeIn, KeptIts
 use Rattle.sector_images.specs.Places.{IsSector, tracks}
 use Rattle.sector_images.specs.declared.format.Format.{Format}
 use Rattle.track_shelf.specs.Files.{File}
+use Rattle.track_shelf.specs.Names.{is_scp}
 use Rattle.track_shelf.specs.declared.stepping.Stepping.{Stepping}
 
 -- the dumps in the folders `a`, `b` and `c`
@@ -25,6 +26,7 @@ pub record AreMixed (disk : DumpDisk) (image : List ℕ) (n : ℕ) (later : List
     (files : List File) : Type 0 where
   pub file : File
   pub is : IsFileOf disk files n 0 file
+  pub a_folder : is_scp is.name ≡ false
   pub stream : List ℕ
   pub bytes : file.bytes ≡ stream ++ later
   pub late : IsLate disk.format image n stream

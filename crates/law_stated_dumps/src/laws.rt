@@ -7,11 +7,12 @@ ghost use Rattle.law_stated_dumps.specs.Reached.{DumpsReachBounds};
 use law_stated_captures::captures_are_as_stated;
 use law_stated_disks::{disks_reach_each_bound, sectors_lie_as_stated};
 use sector_images::{sectors_lie_in_images, tracks_keep_bounds};
+use track_shelf::files_name_dumps;
 
-/// A track's file in a dump is the first that has its path, and it begins with a stream where its first bytes are the
-/// stream's, whatever stands behind them. A sector that the stream captures, or that lies in one of its pieces,
-/// whichever it is, is whole in the dump; a file is passed over where it is missing, where what it begins with has a
-/// fault, or where it failed; and each other dump kept its speed, or is passed over.
+/// A track's file in a dump is the first that has its path; of an SCP file the track has the bytes of the stream that it
+/// stands for. They begin with a stream where the first are the stream's, whatever stands behind them. A sector that the stream captures, or that lies in one of its pieces,
+/// whichever it is, is whole in the dump; a track is passed over where it is missing, where what its bytes begin with has
+/// a fault, or where its file failed; and each other dump kept its speed, or is passed over.
 pub fn dumps_are_as_stated()
     ensures files { FilesAreStated }
     ensures streams { StreamsOfFilesAreStated }
@@ -22,6 +23,7 @@ pub fn dumps_are_as_stated()
     sectors_lie_as_stated();
     captures_are_as_stated();
     sectors_lie_in_images();
+    files_name_dumps();
     tracks_keep_bounds()
 }
 

@@ -1,5 +1,5 @@
 -- The paths of a dump's files, byte by byte.
-use Rattle.std.specs.Prelude.{◌≡◌, ◌≢◌, ◌≤◌, ℕ, ◌+◌, ◌/◌, ◌%◌, List, [], ◌∷◌, ◌++◌}
+use Rattle.std.specs.Prelude.{◌≡◌, ◌≢◌, ◌≤◌, ◌⊎◌, ℕ, ◌+◌, ◌/◌, ◌%◌, List, [], ◌∷◌, ◌++◌}
 
 -- two digits, a point, a digit, `.raw`
 abbrev pub ending : (tens ones head : ℕ) → List ℕ
@@ -24,3 +24,16 @@ pub record IsNameOfFile (name front : List ℕ) : Type 0 where
   pub ones_few : ones ≤ 9
   pub head_few : head ≤ 1
   pub is : name ≡ front ++ ending tens ones head
+
+-- The name of a dump is that of an SCP file: it ends with a point and the letters s, c and p, each
+-- small or great, and something stands before.
+pub record IsNameOfScp (name : List ℕ) : Type 0 where
+  pub front : List ℕ
+  pub some : front ≢ []
+  pub first : ℕ
+  pub second : ℕ
+  pub third : ℕ
+  pub an_s : (first ≡ 83) ⊎ (first ≡ 115)
+  pub a_c : (second ≡ 67) ⊎ (second ≡ 99)
+  pub a_p : (third ≡ 80) ⊎ (third ≡ 112)
+  pub is : name ≡ front ++ 46 ∷ first ∷ second ∷ third ∷ []

@@ -10,8 +10,8 @@ pub fn folders_are_as_stated()
     ensures { FoldersAreStated }
 {}
 
-/// The paths of a track's file, byte by byte: in a folder, in a dump that is named by one of its files,
-/// and in a dump of any other name.
+/// The paths of a track's file, byte by byte: in a folder, in a dump that is named by one of its files, in one that is an
+/// SCP file, and in a dump of any other name.
 pub fn paths_are_as_stated()
     ensures { PathsAreStated }
 {

@@ -1,5 +1,5 @@
 -- The files that are written of an image are a dump that captures it.
-use Rattle.std.proofs.Common.{◌≡◌, ◌<◌, ℕ, Bool, false, List, [], length, refl, ap, sym, subst, ◌∙◌, arith, inl, append-nil, Some, None}
+use Rattle.std.proofs.Common.{◌≡◌, ◌<◌, ◌||◌, ℕ, Bool, true, false, not, List, [], length, refl, ap, sym, subst, ◌∙◌, arith, inl, append-nil, Some, None}
 use Rattle.std.specs.Option.{is_some, option_or}
 use Rattle.std.proofs.lemmas.List.Folds.{find-append}
 use Rattle.std.proofs.lemmas.Slice.Eq.{bytes_eq-Decides}
@@ -8,13 +8,14 @@ use Rattle.flux_engine.specs.Captures.{Capture, IsSteady}
 use Rattle.flux_engine.specs.Recordings.{track_at}
 use Rattle.flux_engine.specs.Rings.{ring_with}
 use Rattle.flux_engine.specs.lemmas.TrackAt.{is_known_at, is_track_at}
+use Rattle.dump_reading.specs.lemmas.DumpTracks.{in_file, of-file}
 use Rattle.law_captured_dumps.specs.Headline.{SteadyDumpsAreReadWell}
 use Rattle.law_captured_dumps.specs.Inputs.{IsSteadyOrPassed}
 use Rattle.law_read_dumps.specs.Said.{came_in}
 use Rattle.sector_images.specs.Formats.{zone}
 use Rattle.sector_images.specs.Places.{IsTrack, NumbersNameTracks, TracksKeepBounds, tracks}
-use Rattle.track_shelf.specs.Files.{File, file_at, file_of, has_path}
-use Rattle.track_shelf.specs.Names.{FolderPathsTell, IsNamed, folder_path, names_file, path_text}
+use Rattle.track_shelf.specs.Files.{File, dump_track, file_at, file_of, has_path}
+use Rattle.track_shelf.specs.Names.{FolderPathsTell, IsNamed, folder_path, is_folder, is_scp, names_file, path_text}
 use Rattle.disk_files.specs.Answers.{first_there}
 use Rattle.disk_files.specs.Files.{DiskFolder, disk_file, disk_files}
 use Rattle.disk_files.specs.Laws.{FilesAreCaptures}
@@ -68,9 +69,20 @@ module _ (tell : FolderPathsTell) (keep : TracksKeepBounds) (names : NumbersName
             ∙ made.3,
       )
 
-  path_is : names_file target.folder ≡ false → (track : TrackId) → path_text target.folder track ≡ folder_path target.folder track
+  none_of : (file scp : Bool) → not (file || scp) ≡ true → (file ≡ false) × (scp ≡ false)
+  none_of true scp is = absurd (cc)
+  none_of false true is = absurd (cc)
+  none_of false false is = (refl, refl)
+
+  path_is : names_file target.folder ≡ false → is_scp target.folder ≡ false → (track : TrackId) → path_text target.folder track ≡ folder_path target.folder track
   unfolding path_text
-  path_is is_folder track = rw is_folder refl
+  path_is file scp track = rw file (rw scp refl)
+
+  -- what a folder has of a track is its file
+  track_is : (files : List File) → is_folder target.folder ≡ true → (track : TrackId) → dump_track files target.folder track ≡ in_file (file_at files (folder_path target.folder track))
+  track_is files is track =
+      let none = none_of (names_file target.folder) (is_scp target.folder) is in
+      of-file files target.folder track none.1 ∙ ap (λ (path : List ℕ). in_file (file_at files path)) (path_is none.0 none.1 track)
 
 -- the bytes capture a track's ring, of a drive that kept its speed
 abbrev CapturesSteadily : (bytes : List ℕ) → (ring : List Bool) → (nominal : ℕ) → Type 0
@@ -86,8 +98,9 @@ files_capture tell keep names captured target before image is can = λ clocks lo
       record {
         stream = file.bytes;
         begins = record {
-          file = file;
-          there = ap (file_at (files_with target before image)) (path_is tell keep names target image can.is_folder (track_at target.format n)) ∙ found.3;
+          bytes = file.bytes;
+          there =
+              track_is tell keep names target image (files_with target before image) can.a_folder (track_at target.format n) ∙ ap in_file found.3;
           later = [];
           is = sym (append-nil file.bytes);
         };

@@ -1,5 +1,5 @@
 -- What the files come to that are written of an image, where they are read as a dump.
-use Rattle.std.specs.Prelude.{◌≡◌, ◌≤◌, ◌<◌, ℕ, false, List, [], ◌∷◌, ◌++◌, length, None, Some}
+use Rattle.std.specs.Prelude.{◌≡◌, ◌≤◌, ◌<◌, ℕ, true, List, [], ◌∷◌, ◌++◌, length, None, Some}
 use Rattle.dump_reading.specs.Outcomes.{DumpDisk, DumpsRead, IsDumpsRead, plan_of}
 use Rattle.dump_reading.specs.declared.looks.Looks.{Looks}
 use Rattle.flux_engine.specs.Captures.{IsSteady}
@@ -12,7 +12,7 @@ use Rattle.law_read_dumps.specs.Lines.{line_number}
 use Rattle.law_read_dumps.specs.Said.{as_planned, came_in}
 use Rattle.sector_images.specs.Places.{tracks}
 use Rattle.track_shelf.specs.Files.{File}
-use Rattle.track_shelf.specs.Names.{names_file}
+use Rattle.track_shelf.specs.Names.{is_folder}
 use Rattle.track_shelf.specs.declared.stepping.Stepping.TheVariants.{Single}
 use Rattle.disk_files.specs.Answers.{first_there}
 use Rattle.disk_files.specs.Files.{DiskFolder, MOST_VERSION, disk_files}
@@ -23,10 +23,10 @@ dump_of target clocks looks =
     record { stepping = Single; dumps = target.folder ∷ []; format = target.format; clocks = clocks; looks = looks }
 
 -- An image can be written there and read again: the version is short, the folder's name is not that
--- of a track's file, and of the files that were there none is one of the disk's.
+-- of a track's file or of an SCP file, and of the files that were there none is one of the disk's.
 pub record CanBeWritten (target : DiskFolder) (before : List File) : Type 0 where
   pub short : length target.version ≤ MOST_VERSION
-  pub is_folder : names_file target.folder ≡ false
+  pub a_folder : is_folder target.folder ≡ true
   pub none_there : first_there before target.folder target.format ≡ None
 
 -- with the files that are written of an image behind those that were there

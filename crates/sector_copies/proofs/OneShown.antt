@@ -1,16 +1,16 @@
 -- The files, and which of them failed, decide what is shown of a sector.
-use Rattle.std.specs.Prelude.{◌≡◌, ◌<◌, ℕ, ◌+◌, ◌*◌, true, false, List, [], length, Option, None, Some, refl}
-use Rattle.std.proofs.Common.{ap, arith, inl, inr, subst, sym, ◌∙◌}
+use Rattle.std.specs.Prelude.{◌≡◌, ◌<◌, ℕ, ◌+◌, ◌*◌, List, [], length, Option, None, Some, Result, refl}
+use Rattle.std.proofs.Common.{ap, arith, subst, sym, ◌∙◌}
 use Rattle.std.proofs.lemmas.List.{ext_get_or}
-use Rattle.kryo_stream.specs.Stream.{first_fault}
-use Rattle.kryo_stream.specs.declared.fault.StreamFault.{StreamFault}
-use Rattle.track_shelf.specs.Files.{File, file_at}
+use Rattle.scp_files.specs.declared.fault.ScpTrackFault.{ScpTrackFault}
+use Rattle.track_shelf.specs.Files.{File}
 use Rattle.turn_merge.specs.Readings.{NotedReading, good_ones, verdict}
 use Rattle.turn_merge.specs.declared.verdict.Verdict.{Verdict}
 use Rattle.flux_engine.specs.LoopProgress.{lost_count, seen_at}
-use Rattle.flux_engine.specs.Plans.{Seen, is_failed, joined, passed_to}
+use Rattle.flux_engine.specs.Plans.{Seen, joined, passed_to}
 use Rattle.flux_engine.specs.declared.gathered_track.PassedStream.{PassedStream}
-use Rattle.dump_reading.specs.DumpStreams.{FailedAlike, IsOrFailed, path_in, seen_of, seen_unless}
+use Rattle.dump_reading.specs.DumpStreams.{FailedAlike, IsOrFailed, seen_of, track_in}
+use Rattle.dump_reading.specs.lemmas.Alike.{one-stream}
 use Rattle.sector_copies.specs.Copies.{Copy, copies_over}
 use Rattle.sector_copies.specs.Laws.{AreReadingsOfCame, ShownIsOne}
 use Rattle.sector_copies.specs.Shown.{IsSectorShown, SectorAsked, SectorShown, shown_of}
@@ -19,36 +19,12 @@ use Rattle.sector_copies.specs.TrackReadings.{of_track, streams_of}
 abbrev no_seen : Seen
 no_seen = record { fault = None; passed = None; times = []; indexes = [] }
 
--- a file says of itself that it is missing or refused, or what it has: that it failed is not said there
-never_failed : (file : Option File) → is_failed (seen_of file).passed ≡ false
-never_failed None = refl
-never_failed (Some file) = by (first_fault file.bytes)
-  where
-    by : (fault : Option (ℕ × StreamFault)) → is_failed (seen_unless file.bytes fault).passed ≡ false
-    by None = refl
-    by (Some fault) = refl
-
--- what came twice of a file is the same, where it failed both times or neither
-same_seen : (a b : Seen) (file : Option File) → IsOrFailed a (seen_of file) → IsOrFailed b (seen_of file) → is_failed a.passed ≡ is_failed b.passed → a ≡ b
-same_seen a b file (inl x) (inl y) alike = x ∙ sym y
-same_seen a b file (inr x) (inr y) alike = x ∙ sym y
-same_seen a b file (inl x) (inr y) alike =
-    absurd (apart (sym (never_failed file) ∙ ap (λ (s : Seen). is_failed s.passed) (sym x) ∙ alike ∙ ap (λ (s : Seen). is_failed s.passed) y))
-  where
-    apart : false ≡ true → ⊥
-    apart same = cc
-same_seen a b file (inr x) (inl y) alike =
-    absurd (apart (sym (never_failed file) ∙ ap (λ (s : Seen). is_failed s.passed) (sym y) ∙ sym alike ∙ ap (λ (s : Seen). is_failed s.passed) x))
-  where
-    apart : false ≡ true → ⊥
-    apart same = cc
-
 module _ (asked : SectorAsked) (files : List File) (a b : SectorShown) (p : IsSectorShown asked (Some files) a) (q : IsSectorShown asked (Some files) b) (alike : FailedAlike p.came q.came) where
   abbrev count : ℕ
   count = length asked.disk.dumps
 
-  abbrev of_file : ℕ → Option File
-  of_file k = file_at files (path_in asked.disk.stepping asked.disk.dumps ((of_track asked.disk asked.number).track_of 0) k)
+  abbrev of_file : ℕ → Option (Result (List ℕ) ScpTrackFault)
+  of_file k = track_in asked.disk.stepping asked.disk.dumps files ((of_track asked.disk asked.number).track_of 0) k
 
   at : (o : SectorShown) (is : IsSectorShown asked (Some files) o) (k : ℕ) → k < count → IsOrFailed (seen_at is.came k) (seen_of (of_file k))
   at o is k few =
@@ -59,7 +35,7 @@ module _ (asked : SectorAsked) (files : List File) (a b : SectorShown) (p : IsSe
 
   same_came : p.came ≡ q.came
   same_came = ext_get_or no_seen p.came q.came (p.many ∙ sym q.many)
-      (λ k low. let few : k < count = subst (λ (n : ℕ). k < n) p.many low in same_seen (seen_at p.came k) (seen_at q.came k) (of_file k) (at a p k few) (at b q k few)
+      (λ k low. let few : k < count = subst (λ (n : ℕ). k < n) p.many low in one-stream (of_file k) (seen_at p.came k) (seen_at q.came k) (at a p k few) (at b q k few)
       (alike k low (let many = q.many in omega (arith, many, few))))
 
   module _ (captures : List (List NotedReading)) (all : AreReadingsOfCame asked p.came captures) where

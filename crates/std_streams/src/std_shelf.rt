@@ -7,11 +7,12 @@ ghost use Rattle.sector_images.specs.Places.{tracks};
 
 use crate::standard::StdSource;
 use flux_base::{Failed, Source, TrackId};
+use scp_files::ScpHeader;
 use sector_images::{Format, track_count, track_id};
 use std::io::{ErrorKind, Read, Seek, SeekFrom};
 use std::rt::Files;
 use std::{fs, io};
-use track_shelf::{DumpKind, Path, Shelf, TrackPath, names_file};
+use track_shelf::{DumpKind, Path, Shelf, TrackPath, is_scp, names_file};
 
 /// How many bytes of a folder's names are read at once. A name has at most 255.
 const READ_SIZE: usize = 4096;
@@ -176,6 +177,40 @@ fn open_source<R: Files>(
     }
 }
 
+/// The begin of an SCP file; None where it is not there.
+fn scp_begin<R: Files>(files: &R, path: &[u8]) -> Result<Option<ScpHeader>, Failed> {
+    let mut source = match open_source(files, &TrackPath::whole(path), 0) {
+        Ok(Some(source)) => source,
+        Ok(None) => return Ok(None),
+        Err(failed) => return Err(failed),
+    };
+    match ScpHeader::read(&mut source) {
+        Ok(header) => Ok(Some(header)),
+        Err(failed) => Err(failed),
+    }
+}
+
+/// Whether an SCP file has a track. One that cannot be looked at has it.
+fn has_scp_track<R: Files>(files: &R, path: &[u8], track: TrackId) -> bool {
+    match scp_begin(files, path) {
+        Ok(Some(header)) => header.place_of(track).is_some(),
+        Ok(None) => false,
+        Err(Failed) => true,
+    }
+}
+
+/// What an SCP file is.
+fn kind_of_scp<R: Files>(files: &R, path: &[u8]) -> DumpKind {
+    match scp_begin(files, path) {
+        Ok(Some(header)) => match header.fault() {
+            Some(fault) => DumpKind::RefusedScp(fault),
+            None => DumpKind::OtherTracks,
+        },
+        Ok(None) => DumpKind::NotThere,
+        Err(Failed) => DumpKind::Unknown,
+    }
+}
+
 /// Whether nothing lies there.
 fn is_missing(error: &io::Error) -> bool {
     error.kind() == ErrorKind::NotFound || error.kind() == ErrorKind::NotADirectory
@@ -270,6 +305,9 @@ impl<'a, R: Files> Shelf for StdShelf<'a, R> {
     }
 
     fn holds(&self, dump: &[u8], track: TrackId) -> bool {
+        if is_scp(dump) {
+            return has_scp_track(self.files, dump, track);
+        }
         let Some(path) = TrackPath::of_dump(dump, track).text() else {
             return true;
         };
@@ -280,6 +318,9 @@ impl<'a, R: Files> Shelf for StdShelf<'a, R> {
     }
 
     fn kind_of(&self, dump: &[u8]) -> DumpKind {
+        if is_scp(dump) {
+            return kind_of_scp(self.files, dump);
+        }
         let Ok(path) = path_of(dump) else {
             return DumpKind::Unknown;
         };

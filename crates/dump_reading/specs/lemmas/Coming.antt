@@ -17,11 +17,11 @@ use Rattle.flux_base.specs.declared.track.TrackId.{TrackId}
 use Rattle.flux_engine.specs.LoopProgress.{lost_count, seen_at}
 use Rattle.flux_engine.specs.Plans.{Seen, is_failed}
 use Rattle.flux_engine.specs.lemmas.Pieces.{range-more}
-use Rattle.track_shelf.specs.Files.{File, file_at, risen_by}
+use Rattle.track_shelf.specs.Files.{File, risen_by}
 use Rattle.track_shelf.specs.Handled.{Handled, more_blamed}
 use Rattle.track_shelf.specs.Told.{ShelfTold, with_failed}
 use Rattle.dump_reading.specs.DumpStreams.{DumpTracks, GaveOf, HaveComeOf, IsOrFailed, failed_path}
-use Rattle.dump_reading.specs.DumpStreams.{failed_paths, path_at, path_in, seen_of}
+use Rattle.dump_reading.specs.DumpStreams.{failed_paths, path_at, path_in, seen_of, track_in}
 use Rattle.dump_reading.specs.Files.{CountsMany, ShelfNow, failed_more}
 
 abbrev no_seen : Seen
@@ -185,7 +185,7 @@ module _ (of : DumpTracks) (start now : ShelfNow) (before : List Seen) where
       → Counts (is_failed here.passed) now.counts next.counts
       → ((files : List File) → start.told.files ≡ Some files → capture < length of.dumps
       → IsOrFailed here
-      (seen_of (file_at files (path_in of.stepping of.dumps (of.track_of number) capture))))
+      (seen_of (track_in of.stepping of.dumps files (of.track_of number) capture)))
       → HaveComeOf of start next (before ++ here ∷ [])
   came-next number capture low size came next here told counted is = record {
     told =
@@ -222,7 +222,7 @@ module _ (of : DumpTracks) (start now : ShelfNow) (before : List Seen) where
 
       Told : List File → ℕ → ℕ → Type 0
       Told files n dump = IsOrFailed (seen_at (before ++ here ∷ []) (n * of.count + dump))
-          (seen_of (file_at files (path_in of.stepping of.dumps (of.track_of n) dump)))
+          (seen_of (track_in of.stepping of.dumps files (of.track_of n) dump))
 
       by : (files : List File) → start.told.files ≡ Some files → (n dump : ℕ)
           → dump < length of.dumps → dump < of.count
@@ -233,7 +233,7 @@ module _ (of : DumpTracks) (start now : ShelfNow) (before : List Seen) where
           subst
           (λ (s : Seen).
           IsOrFailed s
-          (seen_of (file_at files (path_in of.stepping of.dumps (of.track_of n) dump))))
+          (seen_of (track_in of.stepping of.dumps files (of.track_of n) dump)))
           (sym (get_or_append_left before (here ∷ []) no_seen (n * of.count + dump) less))
           (came.are files known n dump few within less)
       by files known n dump few within below (inr past) =
@@ -250,17 +250,17 @@ module _ (of : DumpTracks) (start now : ShelfNow) (before : List Seen) where
           subst
           (λ (s : Seen).
           IsOrFailed s
-          (seen_of (file_at files (path_in of.stepping of.dumps (of.track_of n) dump))))
+          (seen_of (track_in of.stepping of.dumps files (of.track_of n) dump)))
           (sym (ap (seen_at (before ++ here ∷ [])) place ∙ last-is of before here))
           (subst
           (λ (m : ℕ).
           IsOrFailed here
-          (seen_of (file_at files (path_in of.stepping of.dumps (of.track_of m) dump))))
+          (seen_of (track_in of.stepping of.dumps files (of.track_of m) dump)))
           (sym track)
           (subst
           (λ (q : ℕ).
           IsOrFailed here
-          (seen_of (file_at files (path_in of.stepping of.dumps (of.track_of number) q))))
+          (seen_of (track_in of.stepping of.dumps files (of.track_of number) q)))
           (sym there)
           (is files known (subst (λ (q : ℕ). q < length of.dumps) there few))))
 
@@ -281,6 +281,6 @@ came-gave of start now before number capture low size came track same next here 
     (λ files known few.
     subst
     (λ (t : TrackId).
-    IsOrFailed here (seen_of (file_at files (path_in of.stepping of.dumps t capture))))
+    IsOrFailed here (seen_of (track_in of.stepping of.dumps files t capture)))
     (sym same)
     (gave.is files (ap (λ (t : ShelfTold). t.files) came.told ∙ known) few))

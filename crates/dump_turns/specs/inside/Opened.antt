@@ -5,8 +5,7 @@ use Rattle.std.specs.Prelude.{Option, Some, None}
 use Rattle.flux_base.specs.Counts.{FaultCounts}
 use Rattle.flux_base.specs.declared.track.TrackId.{TrackId}
 use Rattle.flux_engine.specs.Plans.{Seen}
-use Rattle.track_shelf.specs.Files.{File, file_at, none_yet}
-use Rattle.track_shelf.specs.Names.{path_text}
+use Rattle.track_shelf.specs.Files.{File, dump_track, none_yet}
 use Rattle.track_shelf.specs.declared.stepping.Stepping.TheVariants.{Single}
 use Rattle.dump_reading.specs.DumpStreams.{GaveOf}
 use Rattle.dump_reading.specs.Files.{ShelfNow}
@@ -45,7 +44,7 @@ IsWithin most _ = Unit {0}
 abbrev pub lost_path : (path : List ℕ) → Opened → List (List ℕ)
 lost_path path opened = cond (is_lost opened) (path ∷ []) []
 
--- The file of a track was read between two moments of the shelf: what came of it, and that is
+-- A track was read between two moments of the shelf: what came of it, and that is
 -- what is found.
 pub record FindsOne (dump : List ℕ) (track : TrackId) (start now : ShelfNow)
     (found : Found) : Type 0 where
@@ -53,4 +52,4 @@ pub record FindsOne (dump : List ℕ) (track : TrackId) (start now : ShelfNow)
   pub gave : GaveOf Single (dump ∷ []) track 0 start now here
   pub told : IsToldOf here found
   pub sized : (files : List File) → start.told.files ≡ Some files
-      → HasSize (file_at files (path_text dump track)) found
+      → HasSize (dump_track files dump track) found

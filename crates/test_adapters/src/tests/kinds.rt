@@ -1,6 +1,7 @@
 //! What lies under a dump's name, over files that stand in for the system's.
 use super::FAULTS;
 use super::files::{Opened, Record, StandIn};
+use scp_files::ScpFault;
 use std::alloc::Global;
 use std::io::ErrorKind;
 use std::test::Fail;
@@ -10,8 +11,13 @@ use track_shelf::{DumpKind, Shelf};
 /// No call fails.
 const NONE: u32 = u32::MAX;
 
-const FILES: [(&str, &[u8]); 3] = [
+const FILES: [(&str, &[u8]); 5] = [
     ("disk.zip", b"PK"),
+    ("short.scp", b"SCP"),
+    (
+        "whole.ScP",
+        b"SCP\x19\x04\x01\x00\x00\x01\x00\x00\x00\x00\x00\x00\x00",
+    ),
     ("named/disk00.0.raw", b"x"),
     ("plain/track00.0.raw", b"y"),
 ];
@@ -111,6 +117,7 @@ enum DumpKindWord {
     NoFiles,
     OtherTracks,
     Named(&'static str),
+    ShortHeader(u8),
     Unknown,
 }
 
@@ -123,6 +130,9 @@ fn is_so(kind: &DumpKind, word: DumpKindWord) -> bool {
         | (DumpKind::OtherTracks, DumpKindWord::OtherTracks)
         | (DumpKind::Unknown, DumpKindWord::Unknown) => true,
         (DumpKind::Named(prefix), DumpKindWord::Named(begin)) => prefix.as_str() == begin,
+        (DumpKind::RefusedScp(ScpFault::ShortHeader(size)), DumpKindWord::ShortHeader(bytes)) => {
+            *size == bytes
+        }
         _ => false,
     }
 }
@@ -155,6 +165,24 @@ fn a_folder_is_listed_only_where_it_is_one(rt: HostRuntime) -> Result<(), Fail> 
         assert_eq!(rt; made.as_str(), lines.as_str());
     }
     Ok(())
+}
+
+/// An SCP file, and what it is.
+const SCP_FILES: [(&str, DumpKindWord); 3] = [
+    ("short.scp", DumpKindWord::ShortHeader(3)),
+    ("whole.ScP", DumpKindWord::OtherTracks),
+    ("nowhere.scp", DumpKindWord::NotThere),
+];
+
+// It is opened, and its begin is read.
+#[test]
+fn an_scp_file_is_looked_into(rt: HostRuntime) {
+    for (dump, word) in SCP_FILES {
+        let (kind, _) = look(rt.alloc(), dump, NONE, ErrorKind::Other);
+        assert!(rt; is_so(&kind, word), "{dump} {kind:?}");
+        let (kind, _) = look(rt.alloc(), dump, 0, ErrorKind::Other);
+        assert!(rt; is_so(&kind, DumpKindWord::Unknown), "{dump} {kind:?}");
+    }
 }
 
 // Nothing is called behind the call that failed.

@@ -1,6 +1,7 @@
 //! Lines of the report.
 use flux_base::{HeaderName, TrackId};
 use kryo_stream::StreamFault;
+use scp_files::ScpTrackFault;
 use sector_images::Format;
 use sector_report::{
     Naming, Passed, Totals, USAGE, image_line, named_line, other_line, passed_line, refused_line,
@@ -213,7 +214,7 @@ fn lines_of_totals_and_trials(rt: HostRuntime) {
 }
 
 /// Why the stream of a dump was passed over, and the line.
-const PASSED: [(Passed, &str); 4] = [
+const PASSED: [(Passed, &str); 6] = [
     (Passed::Absent, "07.1 dump 2 missing\n"),
     (Passed::Failed, "07.1 dump 2 failed\n"),
     (
@@ -232,6 +233,14 @@ const PASSED: [(Passed, &str); 4] = [
             },
         },
         "07.1 dump 2 refused block 0 WrongPosition 1 2\n",
+    ),
+    (
+        Passed::RefusedScp(ScpTrackFault::BadNumber(255)),
+        "07.1 dump 2 refused scp BadNumber 255\n",
+    ),
+    (
+        Passed::RefusedScp(ScpTrackFault::ShortTrack),
+        "07.1 dump 2 refused scp ShortTrack\n",
     ),
 ];
 

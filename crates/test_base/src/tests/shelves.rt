@@ -6,7 +6,7 @@ use std::test::Fail;
 use track_shelf::{DumpKind, MemoryShelf, Shelf, ShelfFile, TrackPath};
 
 /// A dump, a cylinder and a head, and the path of that track's file in the dump.
-const PATHS: [(&str, u8, u8, &str); 12] = [
+const PATHS: [(&str, u8, u8, &str); 15] = [
     ("dump", 0, 0, "dump/track00.0.raw"),
     ("dump", 83, 1, "dump/track83.1.raw"),
     ("a/disk00.0.raw", 5, 1, "a/disk05.1.raw"),
@@ -22,6 +22,10 @@ const PATHS: [(&str, u8, u8, &str); 12] = [
     ("disk0.0.raw", 1, 0, "disk0.0.raw/track01.0.raw"),
     ("disk00.0.RAW", 1, 0, "disk00.0.RAW/track01.0.raw"),
     ("disk00.0.raw/", 1, 0, "disk00.0.raw//track01.0.raw"),
+    // All tracks of an SCP file lie in it.
+    ("a/disk.scp", 7, 1, "a/disk.scp"),
+    ("disk.sCP", 7, 1, "disk.sCP"),
+    (".scp", 7, 1, ".scp/track07.1.raw"),
 ];
 
 #[test]
@@ -138,7 +142,7 @@ fn gives(rt: &impl Abort, file: &mut MemoryShelf, piece: Option<&[u8]>) {
 }
 
 /// The paths of files, and a dump's name; what lies under it, and of files of another name what they begin with.
-const KINDS: [(&str, &str, &str); 14] = [
+const KINDS: [(&str, &str, &str); 16] = [
     ("dump", "tracks", ""),
     ("dump/track05.1.raw", "tracks", ""),
     // It is seen whether this very file is there.
@@ -150,6 +154,9 @@ const KINDS: [(&str, &str, &str); 14] = [
     ("other/read.me", "a file", ""),
     ("a.zip", "a file", ""),
     ("a.zip/", "not there", ""),
+    // An SCP file of no bytes, and one that is not there.
+    ("disk.Scp", "refused", ""),
+    ("disk.scp", "not there", ""),
     ("dum", "not there", ""),
     ("dump/", "not there", ""),
     ("", "not there", ""),
@@ -159,9 +166,10 @@ const KINDS: [(&str, &str, &str); 14] = [
 
 /// No name of these in `other` is that of a track's file: nothing stands before, a third head,
 /// a control character, no text.
-const LYING: [&[u8]; 12] = [
+const LYING: [&[u8]; 13] = [
     b"dump/track05.1.raw",
     b"a.zip",
+    b"disk.Scp",
     b"img/disk 83.1.raw",
     b"img/later00.0.raw",
     b"both/disk00.0.raw",
@@ -211,6 +219,7 @@ fn is_kind(kind: &DumpKind, word: &str, begin: &str) -> bool {
         DumpKind::NoFiles => word == "no files",
         DumpKind::OtherTracks => word == "tracks",
         DumpKind::Named(prefix) => word == "named" && prefix.as_str() == begin,
+        DumpKind::RefusedScp(_) => word == "refused",
         DumpKind::Unknown => word == "unknown",
     }
 }

@@ -7,3 +7,16 @@ unfolding passed_text
 returns-in-Refused c =
     rw (c.in-Refused.is, c.put-in-Refused-2.ensures.bytes, c.put_fault.ensures.bytes, c.put-in-Refused.ensures.bytes, c.put_named.ensures.bytes, c.put_track.ensures.bytes, c.new-line.ensures)
     (simp append_assoc refl)
+
+pub returns-in-RefusedScp : goal.returns-in-RefusedScp
+unfolding passed_text
+returns-in-RefusedScp c =
+    rw (
+      c.in-RefusedScp.is,
+      c.put-in-RefusedScp-2.ensures.bytes,
+      c.put_scp_fault.ensures.bytes,
+      c.put-in-RefusedScp.ensures.bytes,
+      c.put_track.ensures.bytes,
+      c.new-line.ensures,
+    )
+    (simp append_assoc refl)

@@ -18,3 +18,19 @@ returns-in-Refused c =
       c.new-line.ensures,
     )
     (simp append_assoc refl)
+
+pub returns-in-RefusedScp : goal.returns-in-RefusedScp
+unfolding passed_text
+returns-in-RefusedScp c =
+    rw (
+      c.in-RefusedScp.is,
+      c.put-in-RefusedScp-2.ensures.bytes,
+      c.put_scp_fault.ensures.bytes,
+      c.put-in-RefusedScp.ensures.bytes,
+      c.put_u32.ensures.bytes,
+      c.from.ensures,
+      c.put.ensures.bytes,
+      c.put_two_digits.ensures.bytes,
+      c.new-line.ensures,
+    )
+    (simp append_assoc refl)

@@ -1,8 +1,6 @@
 use Rattle.std.proofs.Common.{◌≡◌, ◌<◌, ◌≤◌, ◌*◌, ◌/◌, ◌%◌, ◌∙◌, ap, arith, List, Some}
-use Rattle.std.specs.Option.{is_some}
 use Rattle.flux_base.specs.declared.track.TrackId.{TrackId}
-use Rattle.track_shelf.specs.Files.{File, file_at}
-use Rattle.track_shelf.specs.Names.{path_text}
+use Rattle.track_shelf.specs.Files.{File, has_track}
 use Rattle.track_shelf.specs.Stepping.{file_track}
 use Rattle.imd_image.specs.Reaches.{cylinders_by}
 use Rattle.imd_image.proofs.Reaching.{own-empty, own-found, own-gone, own-there}
@@ -15,8 +13,8 @@ loop-number-preserved g c =
     let below : number < 2 * cylinders_by c.args.stepping = omega (arith, c.loop-number-test.true, c.cylinders-number-end.ensures.is) in
     let few : number < 198 = omega (arith, c.loop-number-test.true, c.cylinders-number-end.ensures.few) in
     let says : (files : List File) → g.H.Shelf.files c.args.shelf.now ≡ Some files → c.holds.result
-    ≡ is_some (file_at files (path_text c.args.dump.now (file_track c.args.stepping (record { cylinder = number / 2; head = number % 2 })))) =
-    λ files known. c.holds.ensures files known ∙ ap (λ (t : TrackId). is_some (file_at files (path_text c.args.dump.now t))) c.file_track.ensures in
+    ≡ has_track files c.args.dump.now (file_track c.args.stepping (record { cylinder = number / 2; head = number % 2 })) =
+    λ files known. c.holds.ensures files known ∙ ap (has_track files c.args.dump.now) c.file_track.ensures in
     elim c.if-holds.branch [
       | then-holds w ↦
           rw w.reach-is (rw w.wider-reach.ensures (own-there (g.H.Shelf.files c.args.shelf.now) c.args.stepping c.args.dump.now number below c.loop-number.reach c.loop-number.invariant

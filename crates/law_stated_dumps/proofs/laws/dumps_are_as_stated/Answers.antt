@@ -14,11 +14,12 @@ returns c =
       lie = c.sectors_lie_as_stated.ensures;
       names = c.sectors_lie_in_images.ensures.numbers;
       keep = c.tracks_keep_bounds.ensures.bounds;
+      scp = c.files_name_dumps.ensures.scp;
     } in
     record {
-      files = files_are;
-      streams = streams_are;
+      files = files_are laws.scp;
+      streams = streams_are laws.scp;
       whole = whole laws;
-      passed = passed;
+      passed = passed laws.scp;
       steady = steady laws;
     }
