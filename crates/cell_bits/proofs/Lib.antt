@@ -1,6 +1,7 @@
 pub mod Appending
 pub mod Runs
 pub mod Candidates
+pub mod Copies
 pub mod Dense
 pub mod FourRuns
 pub mod Joining

@@ -2,6 +2,7 @@ ghost use Rattle.std.specs.Prelude.{◌≡◌, ◌*◌, ◌^◌, ◌<◌, ◌≤
 ghost use Rattle.cell_bits.specs.State.{room};
 ghost use Rattle.cell_bits.specs.inside.Window.{IsWindow, IsJoined};
 
+mod copies;
 mod pushes;
 mod reads;
 mod search;

@@ -36,7 +36,7 @@ length-run_cells count some =
     omega (arith, length_push (replicate (count - 1) false) true, length-replicate (count - 1) false)
 
 -- one more count is one more run of cells
-recovered-push : (start : LoopStart) (times : List ℕ) (time count : ℕ) → 0 < length times
+pub recovered-push : (start : LoopStart) (times : List ℕ) (time count : ℕ) → 0 < length times
     → counts start (times ++ time ∷ []) ≡ counts start times ++ count ∷ []
     → recovered start (times ++ time ∷ []) ≡ recovered start times ++ run_cells count
 unfolding recovered

@@ -56,7 +56,7 @@ intervals_are times number row (next ∷ rows) timed =
     ∙ ap (λ (is : List Interval). interval_at times number next.count ∷ is) rest
 
 -- a full window's intervals are those between the last 65 times
-held_between : (start : LoopStart) (times : List ℕ) (last : ℕ) (state : LoopState)
+pub held_between : (start : LoopStart) (times : List ℕ) (last : ℕ) (state : LoopState)
     → last < length times → Holds state start (take (last + 1) times) → length state.recent ≡ 64
     → AreBetween times last state.recent
 unfolding state_behind

@@ -17,3 +17,4 @@ pub mod PieceClocks
 pub mod PieceCells
 pub mod RingLaws
 pub mod CellCounts
+pub mod InStep

@@ -2,6 +2,7 @@
 ghost use Rattle.std.specs.Prelude.{◌≡◌, ℕ, ◌+◌, ◌*◌, ◌/◌, ◌^◌, ◌≤◌, ◌<◌, max, [], ◌∷◌, ◌++◌, List, length, IfOk, ◌↔◌};
 ghost use Rattle.std.specs.Prelude.{IsTrue};
 
+mod alike;
 mod certain;
 mod doubt;
 mod guess;

@@ -1,9 +1,10 @@
 //! From a track's transitions to its cells.
-ghost use Rattle.std.specs.Prelude.{◌≡◌, ℕ, ◌*◌, ◌^◌, ◌≤◌, [], length, All, OnOk, OnErr, IsOk};
+ghost use Rattle.std.specs.Prelude.{◌≡◌, ℕ, ◌*◌, ◌^◌, ◌<◌, ◌≤◌, [], length, All, OnOk, OnErr, IsOk};
 ghost use Rattle.std.specs.List.Sorted.{IsNonDecreasing};
 ghost use Rattle.cell_bits.specs.State.{room};
 ghost use Rattle.phase_loop.specs.Start.{HasWholeBand, INTERVALS, IsHeld, IsStart};
 ghost use Rattle.phase_loop.specs.Rows.{recovered};
+ghost use Rattle.phase_loop.specs.State.{Holds};
 ghost use Rattle.phase_loop.specs.Pieces.{FollowsRing, FollowsPieces, FollowsSteadyRing, FollowsSteadyPieces};
 
 use crate::phase::Loop;
@@ -50,7 +51,7 @@ pub fn recover(
 }
 
 /// Appends the cells of these times to a list that is empty. The loop starts anew even where there is no time.
-fn append_cells(
+pub(crate) fn append_cells(
     times: &[u64],
     start: LoopStart,
     bench: &mut Loop,
@@ -61,6 +62,8 @@ fn append_cells(
     requires within { All (λ time. time ≤ 2 ^ 39) times.now }
     requires empty { cells.old.cells ≡ [] }
     ensures ok { OnOk result (cells.new.cells ≡ recovered start times.now) }
+    ensures holds { OnOk result (0 < length times.now → Holds bench.new start times.now) }
+    ensures short { OnOk result (length cells.new.cells ≤ 32 * length times.now) }
     ensures window { length bench.new.recent ≤ INTERVALS }
     ensures room { room cells.old ≤ room cells.new }
     ensures succeeds { 32 * length times.now ≤ room cells.old → IsOk result }
