@@ -2,15 +2,22 @@
 use Rattle.std.specs.Prelude.{◌≡◌, ◌≤◌, ◌<◌, ℕ, Bool, List, Option, Some, None, get_or, length}
 use Rattle.cell_bits.specs.State.{room}
 use Rattle.phase_loop.specs.Rows.{recovered}
+use Rattle.phase_loop.specs.Start.{IsStart}
 use Rattle.phase_loop.specs.declared.start.LoopStart.{LoopStart}
 use Rattle.flux_engine.specs.Gathering.{AreCellsOf}
 use Rattle.flux_engine.specs.Room.{MOST_CELLS}
 use Rattle.flux_engine.specs.declared.shared_cells.CellSlot.{CellSlot}
 
--- cells that were recovered of these transitions from where a clock started, if it did
+-- cells that were recovered of these transitions from where a clock started
+pub record AreRecovered (start : LoopStart) (times : List ℕ) (cells : List Bool) : Type 0 where
+  pub starts : IsStart start
+  pub cells_are : cells ≡ recovered start times
+  pub are : AreCellsOf times cells
+
+-- if it did
 abbrev pub HoldsCells : (start : Option LoopStart) → (times : List ℕ) → (cells : List Bool) → Type 0
 HoldsCells None times cells = Unit {0}
-HoldsCells (Some start) times cells = (cells ≡ recovered start times) × AreCellsOf times cells
+HoldsCells (Some start) times cells = AreRecovered start times cells
 
 -- the most cells of so many transitions as are kept for more than one start
 abbrev pub FEW_CELLS : ℕ
@@ -30,4 +37,4 @@ pub record AreKept (used : ℕ) (slots : List CellSlot) (times : List ℕ) : Typ
 pub record HoldsIn (slots : List CellSlot) (slot : ℕ) (start : LoopStart)
     (times : List ℕ) : Type 0 where
   pub low : slot < length slots
-  pub holds : (d : CellSlot) → HoldsCells (Some start) times (get_or slots slot d).cells.cells
+  pub holds : (d : CellSlot) → AreRecovered start times (get_or slots slot d).cells.cells

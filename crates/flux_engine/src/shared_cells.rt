@@ -1,13 +1,13 @@
 //! The cells that a clock recovered of one stream, kept for each place at which it started.
 
-ghost use Rattle.std.specs.Prelude.{◌≡◌, ◌≤◌, ◌<◌, ◌*◌, ℕ, List, Some, IfOk, IfSome, get_or, length};
+ghost use Rattle.std.specs.Prelude.{◌≡◌, ◌≢◌, ◌≤◌, ◌<◌, ◌*◌, ℕ, List, Some, IfOk, IfSome, get_or, length};
 ghost use Rattle.cell_bits.specs.State.{room};
 ghost use Rattle.phase_loop.specs.Start.{IsStart};
 ghost use Rattle.sector_images.specs.Places.{IsTrack};
 ghost use Rattle.flux_engine.specs.Reading.{IsBounded};
 ghost use Rattle.flux_engine.specs.Recordings.{start_of};
 ghost use Rattle.flux_engine.specs.Room.{MOST_CELLS};
-ghost use Rattle.flux_engine.specs.SharedCells.{AreKept, HoldsCells, HoldsIn};
+ghost use Rattle.flux_engine.specs.SharedCells.{AreKept, AreRecovered, HoldsCells, HoldsIn};
 ghost use Rattle.flux_engine.specs.declared.shared_cells.CellSlot.{CellSlot as Slot};
 
 use crate::capture::{clock_start, recover_from};
@@ -15,7 +15,7 @@ use crate::room::MOST_CELLS;
 use cell_bits::Cells;
 use flux_base::{Memory, TrackId};
 use index_turns::TrackFlux;
-use phase_loop::{Loop, LoopStart};
+use phase_loop::{Band, Loop, LoopStart, recover_in_step};
 use sector_images::Format;
 use std::alloc::Global;
 use turn_merge::Clock;
@@ -40,6 +40,8 @@ pub(crate) struct CellSlot {
 #[derive(Drop)]
 pub(crate) struct SharedCells {
     pub clock: Loop,
+    /// Follows cells that are kept, while others fall in step with them.
+    pub follower: Loop,
     /// The first has room for the cells of any stream, each other for those of few transitions.
     pub slots: Vec<CellSlot>,
     /// So many of the first have cells of this stream.
@@ -52,6 +54,7 @@ impl SharedCells {
         ensures { IfOk result (λ shared. (times : List ℕ) → AreKept shared.used shared.slots.items times) }
     {
         let clock = Loop::new(alloc)?;
+        let follower = Loop::new(alloc)?;
         let mut slots = Vec::with_capacity(alloc, MOST_STARTS)?;
         slots.push_reserved(CellSlot::reserve(alloc, MOST_CELLS)?);
         for _number in 1..MOST_STARTS {
@@ -59,6 +62,7 @@ impl SharedCells {
         }
         Ok(SharedCells {
             clock,
+            follower,
             slots,
             used: 0,
         })
@@ -118,7 +122,14 @@ impl SharedCells {
         ensures kept { AreKept self.new.used self.new.slots.items flux.now.times }
     {
         let slot = self.free_slot(flux.times().len());
-        self.slots[slot].recover(start, flux, &mut self.clock);
+        recover_slot(
+            start,
+            flux,
+            slot,
+            &mut self.slots,
+            &mut self.clock,
+            &mut self.follower,
+        );
         if slot == self.used {
             self.used += 1;
         }
@@ -154,16 +165,100 @@ impl CellSlot {
         Ok(CellSlot { start: None, cells })
     }
 
-    /// Recovers the cells of a start.
-    fn recover(&mut self, start: LoopStart, flux: &TrackFlux, clock: &mut Loop)
+    /// Recovers the cells of a start, where those of others are known.
+    fn recover(
+        &mut self,
+        start: LoopStart,
+        flux: &TrackFlux,
+        known: &[CellSlot],
+        clock: &mut Loop,
+        follower: &mut Loop,
+    )
         requires start { IsStart start }
         requires bounded { IsBounded flux.now }
+        requires known { (k : ℕ) (d : Slot) → k < length known.now
+            → HoldsCells (get_or known.now k d).start flux.now.times (get_or known.now k d).cells.cells }
         requires room { 32 * length flux.now.times ≤ room self.old.cells }
-        ensures holds { HoldsCells (Some start) flux.now.times self.new.cells.cells }
+        ensures holds { AreRecovered start flux.now.times self.new.cells.cells }
         ensures start { self.new.start ≡ Some start }
         ensures room { room self.old.cells ≤ room self.new.cells }
     {
-        recover_from(start, flux, clock, &mut self.cells);
+        match slot_of_band(start.band, known) {
+            Some((slot, near)) => recover_like(
+                start,
+                flux,
+                near,
+                &known[slot].cells,
+                clock,
+                follower,
+                &mut self.cells,
+            ),
+            None => recover_from(start, flux, clock, &mut self.cells),
+        }
         self.start = Some(start);
+    }
+}
+
+/// Recovers the cells of a start in a slot, where those in the slots before it are known.
+fn recover_slot(
+    start: LoopStart,
+    flux: &TrackFlux,
+    slot: usize,
+    slots: &mut [CellSlot],
+    clock: &mut Loop,
+    follower: &mut Loop,
+)
+    requires start { IsStart start }
+    requires bounded { IsBounded flux.now }
+    requires slot { slot < length slots.old }
+    requires known { (k : ℕ) (d : Slot) → k < slot
+        → HoldsCells (get_or slots.old k d).start flux.now.times (get_or slots.old k d).cells.cells }
+    requires room { (d : Slot) → 32 * length flux.now.times ≤ room (get_or slots.old slot d).cells }
+    ensures many { length slots.new ≡ length slots.old }
+    ensures others { (k : ℕ) (d : Slot) → k ≢ slot → get_or slots.new k d ≡ get_or slots.old k d }
+    ensures start { (d : Slot) → (get_or slots.new slot d).start ≡ Some start }
+    ensures cells { (d : Slot) → AreRecovered start flux.now.times (get_or slots.new slot d).cells.cells }
+    ensures room { (d : Slot) → room (get_or slots.old slot d).cells ≤ room (get_or slots.new slot d).cells }
+{
+    let (known, free) = slots.split_at_mut(slot);
+    free[0].recover(start, flux, known, clock, follower);
+}
+
+/// The first slot whose cells were recovered in a band, and where their clock started, if there is one.
+fn slot_of_band(band: Band, slots: &[CellSlot]) -> Option<(usize, LoopStart)>
+    ensures { IfSome result (λ found. (found.0 < length slots.now)
+        × ((d : Slot) → (get_or slots.now found.0 d).start ≡ Some found.1)) }
+{
+    for slot in 0..slots.len() {
+        if let Some(start) = slots[slot].start {
+            if start.band == band {
+                return Some((slot, start));
+            }
+        }
+    }
+    None
+}
+
+/// Recovers the cells of a start where those of another are known, with which they fall in step.
+fn recover_like(
+    start: LoopStart,
+    flux: &TrackFlux,
+    known: LoopStart,
+    known_cells: &Cells,
+    clock: &mut Loop,
+    follower: &mut Loop,
+    cells: &mut Cells,
+)
+    requires start { IsStart start }
+    requires bounded { IsBounded flux.now }
+    requires known { AreRecovered known flux.now.times known_cells.now.cells }
+    requires room { 32 * length flux.now.times ≤ room cells.old }
+    ensures recovered { AreRecovered start flux.now.times cells.new.cells }
+    ensures room { room cells.old ≤ room cells.new }
+{
+    match recover_in_step(flux, start, clock, cells, known, follower, known_cells) {
+        Ok(()) => {}
+        // There is room for 32 cells of each transition.
+        Err(_) => unreachable!(),
     }
 }

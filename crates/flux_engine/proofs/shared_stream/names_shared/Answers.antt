@@ -15,8 +15,8 @@ returns-in-PassedOver-clause-noted c =
 
 pub names_in_cells-requires-clause-cells : goal.names_in_cells-requires-clause-cells
 names_in_cells-requires-clause-cells c =
-    (in-slot c.recover-slot.new.self.slots.items c.recover-slot.result (start_of c.args.format c.args.near c.args.flux.now.indexes) c.args.flux.now.times c.cells.result.now c.recover-slot.ensures.slot c.cells.ensures).0
+    (in-slot c.recover-slot.new.self.slots.items c.recover-slot.result (start_of c.args.format c.args.near c.args.flux.now.indexes) c.args.flux.now.times c.cells.result.now c.recover-slot.ensures.slot c.cells.ensures).cells_are
 
 pub names_in_cells-requires-clause-are : goal.names_in_cells-requires-clause-are
 names_in_cells-requires-clause-are c =
-    (in-slot c.recover-slot.new.self.slots.items c.recover-slot.result (start_of c.args.format c.args.near c.args.flux.now.indexes) c.args.flux.now.times c.cells.result.now c.recover-slot.ensures.slot c.cells.ensures).1
+    (in-slot c.recover-slot.new.self.slots.items c.recover-slot.result (start_of c.args.format c.args.near c.args.flux.now.indexes) c.args.flux.now.times c.cells.result.now c.recover-slot.ensures.slot c.cells.ensures).are

@@ -32,8 +32,8 @@ returns-in-PassedOver-clause-noted c =
 
 pub note_in_cells-requires-clause-cells : goal.note_in_cells-requires-clause-cells
 note_in_cells-requires-clause-cells c =
-    (in-slot c.recover-slot.new.self.slots.items c.recover-slot.result (start_of c.args.format c.args.track c.args.flux.now.indexes) c.args.flux.now.times c.cells.result.now c.recover-slot.ensures.slot c.cells.ensures).0
+    (in-slot c.recover-slot.new.self.slots.items c.recover-slot.result (start_of c.args.format c.args.track c.args.flux.now.indexes) c.args.flux.now.times c.cells.result.now c.recover-slot.ensures.slot c.cells.ensures).cells_are
 
 pub note_in_cells-requires-clause-are : goal.note_in_cells-requires-clause-are
 note_in_cells-requires-clause-are c =
-    (in-slot c.recover-slot.new.self.slots.items c.recover-slot.result (start_of c.args.format c.args.track c.args.flux.now.indexes) c.args.flux.now.times c.cells.result.now c.recover-slot.ensures.slot c.cells.ensures).1
+    (in-slot c.recover-slot.new.self.slots.items c.recover-slot.result (start_of c.args.format c.args.track c.args.flux.now.indexes) c.args.flux.now.times c.cells.result.now c.recover-slot.ensures.slot c.cells.ensures).are

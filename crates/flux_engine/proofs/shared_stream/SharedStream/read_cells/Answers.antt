@@ -14,7 +14,7 @@ read-requires-clause-cells g c =
     let flux = c.flux.result.now in
     let cells = c.cells.result.now in
     let kept = in-slot c.recover-slot.new.self.slots.items c.recover-slot.result (start_of c.args.format c.args.track flux.indexes) flux.times cells c.recover-slot.ensures.slot c.cells.ensures in
-    subst (λ (f : TrackState). AreCellsOf f.times cells.cells) (c.flux.ensures ∙ sym c.flux-in-Read.ensures) kept.1
+    subst (λ (f : TrackState). AreCellsOf f.times cells.cells) (c.flux.ensures ∙ sym c.flux-in-Read.ensures) kept.are
 
 pub returns-in-Read-clause-read : goal.returns-in-Read-clause-read
 returns-in-Read-clause-read g c =
@@ -23,7 +23,7 @@ returns-in-Read-clause-read g c =
     let kept = in-slot c.recover-slot.new.self.slots.items c.recover-slot.result (start_of c.args.format c.args.track flux.indexes) flux.times cells c.recover-slot.ensures.slot c.cells.ensures in
     let same : c.flux-in-Read.result.now ≡ flux = c.flux-in-Read.ensures ∙ sym c.flux.ensures in
     let read = subst (λ (f : TrackState). g.C.CellReader.reads c.args.reader.now f.times f.indexes cells.cells c.read.result) same c.read.ensures in
-    let of_cells = subst (λ (all : List Bool). g.C.CellReader.reads c.args.reader.now flux.times flux.indexes all c.read.result) kept.0 read in
+    let of_cells = subst (λ (all : List Bool). g.C.CellReader.reads c.args.reader.now flux.times flux.indexes all c.read.result) kept.cells_are read in
     let is : seen_next c.self.inside.next c.self.inside.stream.flux ≡ seen_next c.self.inside.next flux = ap (λ (f : TrackState). seen_next c.self.inside.next f) (sym c.flux.ensures) in
     subst
     (λ (here : Seen). (here.passed ≡ None)
