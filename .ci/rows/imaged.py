@@ -5,6 +5,7 @@ from case_imd import file_of
 from plain import numbered
 from plain_dumps import Dumps, Shelf
 from plain_imd import DELETED, imd
+from plain_recordings import crc
 from shared import SHORT, Row, track_file
 
 GOOD = 0xFB
@@ -24,6 +25,26 @@ def bare(cylinder, head, number):
     return [((cylinder, head, number, 0), b"", GOOD)]
 
 
+def in_cells(content):
+    """The bytes of double density whose bits are the cells of bytes of single density."""
+    return b"".join(int("".join(f"1{bit}" for bit in f"{byte:08b}"), 2).to_bytes(2, "big") for byte in content)
+
+
+def hiding(numbers):
+    """512 bytes of double density in which sectors of single density stand, of 128 bytes each: a header and a mark of data take 16 bytes, and
+    their data have a part in common."""
+    made = bytearray(b"\xff" * 32 + in_cells(bytes(240)))
+    begins = [32 + 16 * at for at in range(len(numbers))]
+    for begin, number in zip(begins, numbers):
+        name = bytes([0, 0, number, 0])
+        made[begin:begin + 16] = b"\xf5\x7e" + in_cells(name + crc(b"\xfe" + name).to_bytes(2, "big")) + b"\xf5\x6f"
+    for begin in begins:
+        bits = "".join(f"{byte:08b}" for byte in made[begin + 16:begin + 272])[1::2]
+        content = int(bits, 2).to_bytes(128, "big")
+        made[begin + 272:begin + 276] = in_cells(crc(bytes([GOOD]) + content).to_bytes(2, "big"))
+    return bytes(made)
+
+
 def half(cylinder):
     """A track of a disk of 40 cylinders in a drive of 80."""
     return [(MFM, sectors(cylinder // 2, 0, [1, 2]))]
@@ -35,6 +56,7 @@ DISKS = {
                        (1, 1): [(EIGHT_INCH, sectors(1, 1, [7]))]}, False, 0),
     "two densities on a track": ({(0, 0): [(MFM, sectors(0, 0, [1, 2])), (FM, sectors(0, 0, [1]))]}, False, 1),
     "two sizes on a track": ({(0, 0): [(MFM, sectors(0, 0, [1, 2]) + sectors(0, 0, [3], 2))]}, False, 1),
+    "bytes that are sectors of another density": ({(0, 0): [(MFM, [((0, 0, 1, 2), hiding(range(1, 14)), GOOD)])]}, False, 1),
     "sectors above 1024 bytes": ({(0, 0): [(MFM, sectors(0, 0, [1]) + [((0, 0, 2, 4), b"", GOOD)])]}, False, 1),
     "deleted data and equal bytes": ({(0, 0): [(MFM, sectors(0, 0, [1], mark=DELETED) + alike(0, 0, 2, 0xE5))]}, False, 0),
     "contradictory data": ({(0, 0): [(MFM, alike(0, 0, 1, 1) + alike(0, 0, 1, 2) + sectors(0, 0, [2]))]}, False, 1),

@@ -1,0 +1,6 @@
+pub mod Books
+pub mod Complete
+pub mod Exact
+pub mod Joined
+pub mod Lists
+pub mod Records
