@@ -1,7 +1,7 @@
 //! Tracks of SCP files, with their times worked out by hand: a unit of 25 ns is 0.600686 ticks.
 use flux_base::MemorySource;
 use index_turns::TrackFlux;
-use kryo_stream::StreamFault;
+use kryo_stream::{MOST_INDEXES, MOST_TIMES, StreamFault};
 use scp_files::{
     Capture, CaptureRefused, Revolution, RevolutionFault, ScpFault, ScpHeader, ScpTrackFault,
     TrackHead,
@@ -156,7 +156,7 @@ fn reads(rt: &impl Abort, alloc: Global, row: &Row, chunk: u32) -> Result<(), Fa
         failing,
     )?;
     let mut flux = TrackFlux::new(alloc);
-    flux.reserve(4194304, 256)?;
+    flux.reserve(MOST_TIMES, MOST_INDEXES)?;
     let mut capture = Capture::begin(flux, *resolution);
     let mut ended = None;
     for (duration, entries) in *turns {
