@@ -1,34 +1,38 @@
--- From what the loop over dumps wrote to the picture of a disk.
-use Rattle.std.specs.Prelude.{◌≡◌, ℕ, ◌+◌, List, [], ◌∷◌, ◌++◌, codes, length, Option, Err, refl}
+-- From what the loop over dumps wrote to the picture of a disk, and to the lines beside it.
+use Rattle.std.specs.Prelude.{◌≡◌, ℕ, ◌+◌, ◌-◌, List, [], ◌∷◌, ◌++◌, codes, length, take, Option, None, Result, Ok, Err, refl}
 use Rattle.std.specs.Io.KnownBytes.{Appends}
-use Rattle.std.proofs.Common.{sym, subst, ◌∙◌, arith, inl, inr, append-nil}
-use Rattle.std.proofs.KnownBytes.{Appends-trans}
-use Rattle.std.proofs.lemmas.List.{length_push}
+use Rattle.std.proofs.Common.{ap, sym, subst, ◌∙◌, arith, inl, inr, append-nil}
+use Rattle.std.proofs.KnownBytes.{Appends-nil, Appends-trans}
+use Rattle.std.proofs.lemmas.List.{length_push, take-append-le, take_all}
 use Rattle.flux_base.specs.Outside.{AppendsPart}
 use Rattle.flux_base.specs.lemmas.Parts.{AppendsPart-second}
 use Rattle.flux_base.specs.Blames.{CountsBy, no_counts, three_counts}
 use Rattle.flux_base.specs.Counts.{FaultCounts}
-use Rattle.flux_engine.specs.Disks.{images}
+use Rattle.sector_report.specs.declared.totals.Totals.{Totals}
+use Rattle.flux_engine.specs.Disks.{images, lines}
 use Rattle.flux_engine.specs.Tracks.{TrackPart}
 use Rattle.flux_engine.specs.Blamed.{sink_blame}
-use Rattle.dump_reading.specs.Beside.{no_lines}
+use Rattle.dump_reading.specs.Beside.{LinesOf, no_lines}
 use Rattle.dump_reading.specs.DumpStreams.{of_disk}
 use Rattle.dump_reading.specs.Files.{ShelfNow}
-use Rattle.dump_reading.specs.Outcomes.{CutOfDumps, DumpDisk, HasTracksBy, StopsBy, lines_of, numbers_of}
+use Rattle.dump_reading.specs.Outcomes.{CutOfDumps, DumpDisk, HasTracksBy, LookedAsAsked, StopsBy, lines_of, numbers_of}
 use Rattle.dump_reading.specs.declared.fault.NoFiles.{NoFiles}
 use Rattle.flux_engine.specs.declared.fault.Stopped.{Stopped}
 use Rattle.flux_engine.specs.declared.fault.Stopped.TheVariants.{ReadFault, ImageFault, NotesFault, Refused}
 use Rattle.flux_engine.specs.declared.track_part.PartFault.TheVariants.{ImageFault as PartImageFault}
 use Rattle.dump_reading.specs.declared.totals.DumpTotals.{DumpTotals}
 use Rattle.dump_reading.specs.lemmas.Coming.{none_came}
-use Rattle.disk_map.specs.Dumps.{DrewDumps, SaysOfDrawing, StoppedInDumps, dumps_foot, dumps_front, dumps_part, picture_of}
+use Rattle.disk_map.specs.Dumps.{DrewWithLines, SaysOfDrawing, SaysOfLined, StoppedInPicture, dumps_foot, dumps_front, dumps_part, dumps_part_with, lines_read, picture_of}
+use Rattle.disk_map.specs.Maps.{TrackLinesOf, lined_by, no_track_lines}
 use Rattle.disk_map.specs.Places.{layout_of}
 use Rattle.disk_map.specs.Texts.{top_by}
 use Rattle.disk_map.proofs.Drawing.{cut_track}
+use Rattle.disk_map.proofs.Shown.{numbers-as, read_all_as, texts-as}
 
-module _ (disk : DumpDisk) (start : ShelfNow) (picture : Option (List ℕ)) where
+module _ (of : TrackLinesOf) (beside_of : LinesOf) (disk : DumpDisk) (start : ShelfNow) (picture notes : Option (List ℕ)) where
   -- the sink failed before the first field
-  pub no-top : (picture' : Option (List ℕ)) → AppendsPart picture picture' (top_by (codes "read") disk.format) → StoppedInDumps disk start start picture picture'
+  pub no-top : (picture' : Option (List ℕ)) → AppendsPart picture picture' (top_by (codes "read") disk.format)
+      → StoppedInPicture of beside_of disk start start picture picture' notes notes
   no-top picture' part = record {
     streams = [];
     parts = [];
@@ -36,19 +40,22 @@ module _ (disk : DumpDisk) (start : ShelfNow) (picture : Option (List ℕ)) wher
     read = record { all = omega arith; are = λ files known n q few within below. absurd (omega (arith, below)); each = λ n below. absurd (omega (arith, below)) };
     beside = [];
     ending = [];
-    ends = inl (refl, refl);
+    noted = [];
+    ends = inl (refl, refl, refl);
     shelf = (
         let none = none_came (of_disk disk.stepping disk.dumps (length disk.dumps) disk.format) start in
         record { told = none.told; counts = none.counts }
         );
     grew = subst (AppendsPart picture picture') (sym (append-nil (dumps_front disk.format []) ∙ append-nil (top_by (codes "read") disk.format))) part;
+    lines_grew = Appends-nil notes;
   }
 
   module _ (now : ShelfNow) (top : Option (List ℕ)) (begun : Appends picture top (top_by (codes "read") disk.format)) where
     front : (parts : List TrackPart) (written : Option (List ℕ)) → Appends top written (images parts) → Appends picture written (dumps_front disk.format parts)
     front parts written grew = Appends-trans picture top written (top_by (codes "read") disk.format) (images parts) begun grew
 
-    module _ (written notes notes' picture' : Option (List ℕ)) (totals : DumpTotals) (h : HasTracksBy dumps_part no_lines disk start now top written notes notes' totals) where
+    module _ (written notes' picture' : Option (List ℕ)) (totals : DumpTotals)
+        (h : HasTracksBy (dumps_part_with of) beside_of disk start now top written notes notes' totals) where
       abbrev foot-of : DumpTotals → List ℕ
       foot-of t = dumps_foot (layout_of disk.format) t
 
@@ -56,19 +63,52 @@ module _ (disk : DumpDisk) (start : ShelfNow) (picture : Option (List ℕ)) wher
       numbers = numbers_of h.streams h.parts h.others h.beside.came h.beside.others
 
       -- all was written
-      pub drawn-all : Appends written picture' (dumps_foot (layout_of disk.format) totals) → DrewDumps disk start now picture picture' totals
-      drawn-all foot = record {
-        outcome = picture_of disk.format h.parts (lines_of no_lines h.beside) numbers;
-        is = record { streams = h.streams; parts = h.parts; others = h.others; all = h.all; beside = h.beside; looked = h.looked; is = refl };
-        shelf = h.shelf;
-        grew =
-            Appends-trans picture written picture' (dumps_front disk.format h.parts) (foot-of numbers) (front h.parts written h.image_grew)
-            (subst (λ (t : DumpTotals). Appends written picture' (dumps_foot (layout_of disk.format) t)) h.totals_are foot);
-        totals_are = h.totals_are;
-      }
+      pub drawn-all : Appends written picture' (dumps_foot (layout_of disk.format) totals) → DrewWithLines of beside_of disk start now picture picture' notes notes' totals
+      drawn-all foot =
+          let fields = read_all_as (dumps_part_with of) dumps_part (λ format track gathered. refl) disk start.told.files h.streams h.parts h.others h.all in
+          let alone = read_all_as (dumps_part_with of) (lined_by of) (λ format track gathered. refl) disk start.told.files h.streams h.parts h.others h.all in
+          let fields_are : images fields.read ≡ images h.parts = texts-as (λ (part : TrackPart). part.image) (λ format track gathered. refl) fields in
+          let lines_are : lines alone.read ≡ lines h.parts = texts-as (λ (part : TrackPart). part.lines) (λ format track gathered. refl) alone in
+          let fields_count : totals ≡ numbers_of h.streams fields.read h.others h.beside.came h.beside.others =
+          h.totals_are ∙ sym (numbers-as fields h.beside.came h.beside.others) in
+          record {
+            drew = record {
+              outcome = picture_of disk.format fields.read (lines_of no_lines h.beside) (numbers_of h.streams fields.read h.others h.beside.came h.beside.others);
+              is = record {
+                streams = h.streams;
+                parts = fields.read;
+                others = h.others;
+                all = fields.all;
+                beside = h.beside;
+                looked = subst (λ (t : Totals). LookedAsAsked t h.beside) (sym fields.totals) h.looked;
+                is = refl;
+              };
+              shelf = h.shelf;
+              grew = subst (Appends picture picture') (λ i. (top_by (codes "read") disk.format ++ sym fields_are i) ++ foot-of (fields_count i))
+                  (Appends-trans picture written picture' (dumps_front disk.format h.parts) (foot-of totals) (front h.parts written h.image_grew) foot);
+              totals_are = fields_count;
+            };
+            wrote = record {
+              outcome = lines_read alone.read (lines_of beside_of h.beside) (numbers_of h.streams alone.read h.others h.beside.came h.beside.others);
+              is = record {
+                streams = h.streams;
+                parts = alone.read;
+                others = h.others;
+                all = alone.all;
+                beside = h.beside;
+                looked = subst (λ (t : Totals). LookedAsAsked t h.beside) (sym alone.totals) h.looked;
+                is = refl;
+              };
+              shelf = h.shelf;
+              grew = subst (Appends notes notes') (λ i. sym lines_are i ++ lines_of beside_of h.beside) h.notes_grew;
+              totals_are = h.totals_are ∙ sym (numbers-as alone h.beside.came h.beside.others);
+            };
+            streams = refl;
+            beside = refl;
+          }
 
       -- a part of the foot
-      pub no-foot : AppendsPart written picture' (dumps_foot (layout_of disk.format) totals) → StoppedInDumps disk start now picture picture'
+      pub no-foot : AppendsPart written picture' (dumps_foot (layout_of disk.format) totals) → StoppedInPicture of beside_of disk start now picture picture' notes notes'
       no-foot foot = record {
         streams = h.streams;
         parts = h.parts;
@@ -76,16 +116,28 @@ module _ (disk : DumpDisk) (start : ShelfNow) (picture : Option (List ℕ)) wher
         read = h.all.read;
         beside = h.beside.came;
         ending = foot-of numbers;
-        ends = inr (record { others = h.others; all = h.all; beside = h.beside; looked = h.looked; came_is = refl; is = refl });
+        noted = lines h.parts ++ lines_of beside_of h.beside;
+        ends = inr (record { others = h.others; all = h.all; beside = h.beside; looked = h.looked; came_is = refl; is = refl; noted_is = refl });
         shelf = h.shelf;
         grew =
             AppendsPart-second picture written picture' (dumps_front disk.format h.parts) (foot-of numbers) (front h.parts written h.image_grew)
             (subst (λ (t : DumpTotals). AppendsPart written picture' (dumps_foot (layout_of disk.format) t)) h.totals_are foot);
+        lines_grew = h.notes_grew;
       }
 
+    -- all but the last
+    but-last : (parts : List TrackPart) (next : TrackPart) → lines parts ≡ lines (take (length (parts ++ next ∷ []) - 1) (parts ++ next ∷ []))
+    but-last parts next =
+        let many : length (parts ++ next ∷ []) ≡ length parts + 1 = length_push parts next in
+        let count : length parts ≡ length (parts ++ next ∷ []) - 1 = omega (arith, many) in
+        let first : take (length parts) (parts ++ next ∷ []) ≡ parts =
+        take-append-le (length parts) parts (next ∷ []) (omega arith) ∙ take_all (length parts) parts (omega arith) in
+        ap lines (sym first) ∙ ap (λ (n : ℕ). lines (take n (parts ++ next ∷ []))) count
+
     -- the sink failed at a field
-    cut-field : (written notes notes' : Option (List ℕ)) → CutOfDumps PartImageFault dumps_part no_lines disk start now top written notes notes' → StoppedInDumps disk start now picture written
-    cut-field written notes notes' w =
+    cut-field : (written notes' : Option (List ℕ)) → CutOfDumps PartImageFault (dumps_part_with of) beside_of disk start now top written notes notes'
+        → StoppedInPicture of beside_of disk start now picture written notes notes'
+    cut-field written notes' w =
         let many : length (w.parts ++ w.next ∷ []) ≡ length w.parts + 1 = length_push w.parts w.next in
         record {
           streams = w.are.streams;
@@ -94,16 +146,27 @@ module _ (disk : DumpDisk) (start : ShelfNow) (picture : Option (List ℕ)) wher
           read = w.are.read;
           beside = [];
           ending = [];
-          ends = inl (refl, refl);
+          noted = lines w.parts;
+          ends = inl (refl, refl, but-last w.parts w.next);
           shelf = w.are.shelf;
           grew = cut_track picture top written (top_by (codes "read") disk.format) w.parts w.next w.wrote.0.0 w.wrote.0.1 begun w.wrote.0.2;
+          lines_grew = w.wrote.1;
         }
 
-    -- reading the tracks stopped; there are no notes that could have failed
-    pub drawn-stopped : (written notes notes' : Option (List ℕ)) (fault : Stopped NoFiles) (p p' : FaultCounts)
-        → CountsBy (sink_blame {A = DumpTotals} (Err fault)) (three_counts no_counts p no_counts) (three_counts no_counts p' no_counts)
-        → StopsBy dumps_part no_lines disk start now top written notes notes' fault → SaysOfDrawing disk start now picture written (Err fault)
-    drawn-stopped written notes notes' ReadFault p p' counts stops = absurd stops
-    drawn-stopped written notes notes' (Refused empty) p p' counts stops = absurd stops
-    drawn-stopped written notes notes' ImageFault p p' counts stops = cut-field written notes notes' stops
-    drawn-stopped written notes notes' NotesFault p p' counts stops = omega (arith, counts.notes.cause)
+    -- reading the tracks stopped
+    pub drawn-stopped : (written notes' : Option (List ℕ)) (fault : Stopped NoFiles) → StopsBy (dumps_part_with of) beside_of disk start now top written notes notes' fault
+        → SaysOfLined of beside_of disk start now picture written notes notes' (Err fault)
+    drawn-stopped written notes' ReadFault stops = absurd stops
+    drawn-stopped written notes' (Refused empty) stops = absurd stops
+    drawn-stopped written notes' ImageFault stops = cut-field written notes' stops
+    drawn-stopped written notes' NotesFault stops = record { top = top; begun = begun; cut = stops }
+
+-- where there are no lines, their sink has not failed
+pub unlined : (disk : DumpDisk) (start now : ShelfNow) (picture picture' : Option (List ℕ)) (answer : Result DumpTotals (Stopped NoFiles)) (p p' : FaultCounts)
+    → CountsBy (sink_blame answer) (three_counts no_counts p no_counts) (three_counts no_counts p' no_counts)
+    → SaysOfLined no_track_lines no_lines disk start now picture picture' None None answer → SaysOfDrawing disk start now picture picture' answer
+unlined disk start now picture picture' (Ok totals) p p' counts (some, both) = (some, both.drew)
+unlined disk start now picture picture' (Err ReadFault) p p' counts stops = absurd stops
+unlined disk start now picture picture' (Err (Refused empty)) p p' counts (dump, none, still, same, same_notes) = (dump, none, still, same)
+unlined disk start now picture picture' (Err ImageFault) p p' counts stops = stops
+unlined disk start now picture picture' (Err NotesFault) p p' counts stops = omega (arith, counts.notes.cause)

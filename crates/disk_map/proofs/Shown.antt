@@ -1,16 +1,20 @@
 -- The tracks of a picture and those of a report, by what was gathered of them.
-use Rattle.std.specs.Prelude.{◌≡◌, ◌<◌, ℕ, zero, suc, ◌+◌, List, [], ◌∷◌, length, refl}
+use Rattle.std.specs.Prelude.{◌≡◌, ◌<◌, ℕ, zero, suc, ◌+◌, ◌*◌, List, [], ◌∷◌, ◌++◌, flat_map, length, Option, refl}
 use Rattle.std.proofs.Common.{ap, sym, subst, ◌∙◌, arith}
 use Rattle.flux_base.specs.declared.track.TrackId.{TrackId}
 use Rattle.sector_images.specs.declared.format.Format.{Format}
 use Rattle.sector_report.specs.declared.totals.Totals.{Totals}
 use Rattle.flux_engine.specs.Disks.{part_at, totals_over}
-use Rattle.flux_engine.specs.Plans.{IsPlannedPart, PartOf, Streams, joined, passed_to}
+use Rattle.flux_engine.specs.LoopProgress.{streams_over}
+use Rattle.flux_engine.specs.Plans.{IsPlannedPart, PartOf, Seen, Streams, joined, passed_to}
 use Rattle.flux_engine.specs.Recordings.{track_at}
 use Rattle.flux_engine.specs.Tracks.{TrackNotes, TrackPart, track_notes}
 use Rattle.flux_engine.specs.Writing.{sum_of}
 use Rattle.flux_engine.specs.declared.plan.Plan.{Plan}
 use Rattle.flux_engine.specs.lemmas.PartLaws.{totals-first}
+use Rattle.track_shelf.specs.Files.{File}
+use Rattle.turn_merge.specs.Others.{NotedOther}
+use Rattle.dump_reading.specs.Outcomes.{AreAllBy, DumpDisk, numbers_of, plan_of}
 use Rattle.disk_map.specs.Maps.{ShowsTrack}
 
 -- what becomes of a track in a picture has the totals of what becomes of it in a report
@@ -75,3 +79,63 @@ module _ (drawn_of read_of : PartOf) (same : SameTotals drawn_of read_of) (plan 
         totals = totals-first here.read rest.read ∙ ap (λ (t : Totals). sum_of t (totals_over rest.read)) here.totals
             ∙ ap (sum_of part.totals) rest.totals ∙ sym (totals-first part parts);
       }
+
+-- A text of each track, in the order of the tracks: the same where each is.
+pub texts-same : (text : TrackPart → List ℕ) (parts others : List TrackPart) → length others ≡ length parts
+    → ((n : ℕ) → n < length parts → text (part_at others n) ≡ text (part_at parts n)) → flat_map text others ≡ flat_map text parts
+texts-same text [] [] many same = refl
+texts-same text [] (other ∷ others) many same = absurd (omega (arith, many))
+texts-same text (part ∷ parts) [] many same = absurd (omega (arith, many))
+texts-same text (part ∷ parts) (other ∷ others) many same =
+    let first : text other ≡ text part = same 0 (omega arith) in
+    let rest : flat_map text others ≡ flat_map text parts = texts-same text parts others (omega (arith, many)) (λ n low. same (suc n) (omega (arith, low))) in
+    λ i. first i ++ rest i
+
+-- All tracks of dumps, as what else may become of them: of the same streams, with the same totals.
+pub record ReadAllAs (drawn_of read_of : PartOf) (disk : DumpDisk) (told : Option (List File)) (streams : List Seen) (parts : List TrackPart) (others : List (List NotedOther)) : Type 0 where
+  pub read : List TrackPart
+  pub all : AreAllBy read_of disk told streams read others
+  pub many : length read ≡ length parts
+  pub shows : (n : ℕ) → n < length parts → ShowsTrack drawn_of read_of disk.format n (part_at parts n) (part_at read n)
+  pub totals : totals_over read ≡ totals_over parts
+
+pub read_all_as : (drawn_of read_of : PartOf) → SameTotals drawn_of read_of → (disk : DumpDisk) (told : Option (List File)) (streams : List Seen) (parts : List TrackPart)
+    (others : List (List NotedOther)) → AreAllBy drawn_of disk told streams parts others → ReadAllAs drawn_of read_of disk told streams parts others
+read_all_as drawn_of read_of same disk told streams parts others all =
+    let from = read_from drawn_of read_of same (plan_of disk) disk.format (streams_over (plan_of disk) streams) 0 parts
+    (λ n low. let first : n ≡ 0 + n = omega arith in
+    subst (λ (k : ℕ). IsPlannedPart (plan_of disk) drawn_of disk.format (streams_over (plan_of disk) streams) k (part_at parts n)) first (all.read.each n low)) in
+    record {
+      read = from.read;
+      all = record {
+        many = from.many ∙ all.many;
+        read = record {
+          all = all.read.all ∙ ap (λ (n : ℕ). n * length disk.dumps) (sym from.many);
+          are = all.read.are;
+          each = λ n low. let first : 0 + n ≡ n = omega arith in
+              subst (λ (k : ℕ). IsPlannedPart (plan_of disk) read_of disk.format (streams_over (plan_of disk) streams) k (part_at from.read n)) first (from.each n low);
+        };
+        many_others = all.many_others;
+        others_are = all.others_are;
+      };
+      many = from.many;
+      shows = λ n low. let first : 0 + n ≡ n = omega arith in
+          subst (λ (k : ℕ). ShowsTrack drawn_of read_of disk.format k (part_at parts n) (part_at from.read n)) first (from.shows n low);
+      totals = from.totals;
+    }
+
+-- the texts of these tracks that are the same by what was gathered of them
+pub texts-as : {drawn_of read_of : PartOf} {disk : DumpDisk} {told : Option (List File)} {streams : List Seen} {parts : List TrackPart} {others : List (List NotedOther)}
+    (text : TrackPart → List ℕ) → ((format : Format) (track : TrackId) (notes : TrackNotes) → text (read_of format track notes) ≡ text (drawn_of format track notes))
+    → (shown : ReadAllAs drawn_of read_of disk told streams parts others) → flat_map text shown.read ≡ flat_map text parts
+texts-as {disk = disk} {parts = parts} text same shown =
+    texts-same text parts shown.read shown.many
+    (λ n low. let here = shown.shows n low in
+    ap text here.read_is ∙ same disk.format (track_at disk.format n) here.notes ∙ sym (ap text here.drawn_is))
+
+-- the numbers that they come to
+pub numbers-as : {drawn_of read_of : PartOf} {disk : DumpDisk} {told : Option (List File)} {streams : List Seen} {parts : List TrackPart} {others : List (List NotedOther)}
+    (shown : ReadAllAs drawn_of read_of disk told streams parts others) (came : List Seen) (names : List (List NotedOther))
+    → numbers_of streams shown.read others came names ≡ numbers_of streams parts others came names
+numbers-as {streams = streams} {parts = parts} {others = others} shown came names =
+    ap (λ (t : Totals). record (numbers_of streams parts others came names) { sectors = t }) shown.totals

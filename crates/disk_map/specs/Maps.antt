@@ -25,11 +25,30 @@ unfoldable pub fields_by : Naming → Format → TrackId → List NotedReading �
 fields_by naming format track readings =
     flat_map (field_of naming format track readings) (numbers (sectors_of format track))
 
--- what becomes of a track in a picture: its fields, and no notes
-abbrev pub drawn_by : Naming → Format → TrackId → TrackNotes → TrackPart
-drawn_by naming format track notes = record {
+-- what is written of a track beside its fields, to a second sink: lines by what was gathered of it
+abbrev pub TrackLinesOf : Type 0
+TrackLinesOf = Format → TrackId → TrackNotes → List ℕ
+
+abbrev pub no_track_lines : TrackLinesOf
+no_track_lines format track notes = []
+
+-- what becomes of a track in a picture: its fields, and these lines
+abbrev pub drawn_with : TrackLinesOf → Naming → PartOf
+drawn_with of naming format track notes = record {
   image = fields_by naming format track notes.readings;
-  lines = [];
+  lines = of format track notes;
+  totals = totals_of (map (verdict notes.readings) (numbers (sectors_of format track)));
+}
+
+-- or none
+abbrev pub drawn_by : Naming → PartOf
+drawn_by naming = drawn_with no_track_lines naming
+
+-- what becomes of it in the lines alone
+abbrev pub lined_by : TrackLinesOf → PartOf
+lined_by of format track notes = record {
+  image = [];
+  lines = of format track notes;
   totals = totals_of (map (verdict notes.readings) (numbers (sectors_of format track)));
 }
 

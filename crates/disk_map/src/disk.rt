@@ -19,6 +19,7 @@ use crate::field_writer::FieldWriter;
 use crate::layout::Layout;
 use crate::text::write_text;
 use crate::texts::{LABELS, begin_text, foot_text, grid_text};
+use dump_reading::Unsaid;
 use flux_base::{CountingSink, Failed, Sink, Source, write_whole};
 use flux_engine::{
     DiskRoom, Plan, RefusedCapture, Stopped, decode_planned_tracks, no_totals, room_format,
@@ -71,6 +72,7 @@ pub fn map_disk<S: Source, P: Sink>(
         plan,
         &FieldWriter {
             naming: plan.naming,
+            lines: &Unsaid,
         },
         room,
         source,

@@ -3,15 +3,15 @@
 ghost use Rattle.std.specs.Prelude.{◌≡◌, ◌≤◌, length};
 ghost use Rattle.flux_base.specs.Blames.{CountsBy, no_counts, three_counts};
 ghost use Rattle.flux_base.specs.Moments.{Puts};
-ghost use Rattle.flux_base.specs.World.{sink_at, sink_counts};
+ghost use Rattle.flux_base.specs.World.{sink_at, sink_counts, sinks_counts};
 ghost use Rattle.flux_engine.specs.Room.{fresh};
 ghost use Rattle.flux_engine.specs.Blamed.{sink_blame};
 ghost use Rattle.dump_reading.specs.Files.{shelf_at};
 ghost use Rattle.dump_reading.specs.Outcomes.{disk_of};
-ghost use Rattle.disk_map.specs.Dumps.{SaysOfDrawing, dumps_foot};
+ghost use Rattle.disk_map.specs.Dumps.{SaysOfDrawing, SaysOfLined, dumps_foot};
 
 use crate::disk::write_top;
-use crate::field_writer::FieldWriter;
+use crate::field_writer::{FieldWriter, LineWriter};
 use crate::layout::Layout;
 use crate::text::write_text;
 use crate::texts::{counts_text, foot_text};
@@ -45,6 +45,31 @@ pub fn map_dumps<H: Shelf, P: Sink>(
         (three_counts no_counts (sink_counts P.Sink picture.old) no_counts)
         (three_counts no_counts (sink_counts P.Sink picture.new) no_counts) }
 {
+    let mut nothing = CountingSink::new();
+    draw_dumps(dumps, &Unsaid, room, shelf, picture, &mut nothing)
+}
+
+/// The same, and lines beside the picture: of each track those of a writer, also of the files of other tracks. After a
+/// fault of a sink nothing more is read or written.
+pub fn draw_dumps<L: LineWriter, H: Shelf, P: Sink, N: Sink>(
+    dumps: &Dumps,
+    lines: &L,
+    room: &mut DiskRoom,
+    shelf: &mut H,
+    picture: &mut P,
+    notes: &mut N,
+) -> Result<DumpTotals, Stopped<NoFiles>>
+    requires fresh { room.old ≡ fresh room.old.format }
+    requires few { length dumps.now.names.now ≤ 16 }
+    ensures says { SaysOfLined (L.track_lines_of lines.now) (L.lines_of lines.now) (disk_of dumps.now room.old.format)
+        (shelf_at H.Source H.Shelf.own shelf.old) (shelf_at H.Source H.Shelf.own shelf.new) (P.written picture.old)
+        (P.written picture.new) (N.written notes.old) (N.written notes.new) result }
+
+    // What the shelf did is in what came of it.
+    ensures blames { CountsBy (sink_blame result)
+        (sinks_counts P.Sink N.Sink picture.old notes.old)
+        (sinks_counts P.Sink N.Sink picture.new notes.new) }
+{
     let format = room_format(room);
     match find_empty(dumps, format, shelf) {
         None => {}
@@ -56,18 +81,18 @@ pub fn map_dumps<H: Shelf, P: Sink>(
     }
     let writer = FieldWriter {
         naming: Naming::ByCaptureAndClock,
+        lines,
     };
-    let mut nothing = CountingSink::new();
     let totals = match read_dump_tracks(
         Clocks::Both,
         Looks::Always,
         dumps,
         &writer,
-        &Unsaid,
+        lines,
         room,
         shelf,
         picture,
-        &mut nothing,
+        notes,
     ) {
         Ok(totals) => totals,
         Err(fault) => return Err(fault),

@@ -20,7 +20,7 @@ pub enum Kind {
 }
 
 /// The kind of a verdict.
-pub(crate) fn kind_of(verdict: &Verdict) -> Kind
+pub fn kind_of(verdict: &Verdict) -> Kind
     ensures { result ≡ kind_of verdict.now }
 {
     match *verdict {
@@ -32,7 +32,7 @@ pub(crate) fn kind_of(verdict: &Verdict) -> Kind
 }
 
 /// The name, as the report has it.
-pub(crate) fn name_of(kind: Kind) -> &'static str
+pub fn name_of(kind: Kind) -> &'static str
     ensures { result.now ≡ name_of kind }
 {
     match kind {

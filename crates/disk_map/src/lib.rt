@@ -3,7 +3,7 @@
 //!
 //! A disk is read by the engine's loop (`flux_engine`), by the plan of its report, and the fields of a track are
 //! written as soon as it is read. What is written depends on the format and on the verdicts alone. Dumps of a disk are
-//! read as `dump_reading` reads them.
+//! read as `dump_reading` reads them; what else is told of their tracks can be written beside the picture (`LineWriter`).
 #![tactic(auto)]
 
 mod disk;
@@ -16,8 +16,9 @@ mod text;
 mod texts;
 
 pub use disk::map_disk;
-pub use dumps::map_dumps;
-pub use kind::Kind;
+pub use dumps::{draw_dumps, map_dumps};
+pub use field_writer::LineWriter;
+pub use kind::{Kind, kind_of, name_of};
 pub use laws::{
     dumps_are_drawn_as_reported, each_sector_has_its_field, fields_tell_verdicts,
     maps_are_of_reports,
