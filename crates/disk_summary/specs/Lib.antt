@@ -1,0 +1,6 @@
+pub mod Values
+pub mod Texts
+pub mod Notes
+pub mod Dumps
+pub mod Laws
+pub mod inside

@@ -1,0 +1,2 @@
+-- What the crate's own functions say to one another: no public contract cites it.
+pub mod Pieces
