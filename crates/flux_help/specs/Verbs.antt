@@ -4,20 +4,22 @@ use Rattle.std.specs.Prelude.{ℕ, List, [], ◌∷◌, Bool, true, false, codes
 use Rattle.std.specs.List.{position_from, slice_get}
 use Rattle.std.specs.Option.{option_and_then}
 use Rattle.std.specs.Str.{bytes_eq}
-use Rattle.flux_help.specs.declared.verb.TheConstants.{IDENTIFY, IMD, INFO, READ, SHOW, DECODE_FOLDER}
-use Rattle.flux_help.specs.declared.verb.TheConstants.{DECODE_SET, RESCUE, DECODE, REPORT, MAP}
+use Rattle.flux_help.specs.declared.verb.TheConstants.{ARCHIVE, IDENTIFY, IMD, INFO, READ, SHOW}
+use Rattle.flux_help.specs.declared.verb.TheConstants.{DECODE_FOLDER, DECODE_SET, RESCUE, DECODE}
+use Rattle.flux_help.specs.declared.verb.TheConstants.{REPORT, MAP}
 use Rattle.flux_help.specs.declared.verb.TheConstants.{WRITE, SPLIT, UNPACK, TURNS, TO_G64, FROM_G64, TRIAL}
 use Rattle.flux_help.specs.declared.verb.TheConstants.{HELP}
 use Rattle.flux_help.specs.declared.verb.Texts.{Texts}
 use Rattle.flux_help.specs.declared.verb.Verb.{Verb}
-use Rattle.flux_help.specs.declared.verb.Verb.TheVariants.{Identify, Imd, Info, Read, Show, DecodeFolder}
-use Rattle.flux_help.specs.declared.verb.Verb.TheVariants.{DecodeSet, Rescue, Decode, Report, Map}
+use Rattle.flux_help.specs.declared.verb.Verb.TheVariants.{Archive, Identify, Imd, Info, Read, Show}
+use Rattle.flux_help.specs.declared.verb.Verb.TheVariants.{DecodeFolder, DecodeSet, Rescue, Decode}
+use Rattle.flux_help.specs.declared.verb.Verb.TheVariants.{Report, Map}
 use Rattle.flux_help.specs.declared.verb.Verb.TheVariants.{Write, Split, Unpack, Turns, ToG64}
 use Rattle.flux_help.specs.declared.verb.Verb.TheVariants.{FromG64, Trial, Help}
 
 -- all commands, in the order in which the help lists them
 abbrev pub verbs : List Verb
-verbs = Identify ∷ Info ∷ Imd ∷ Read ∷ Show ∷ DecodeFolder ∷ DecodeSet ∷ Rescue ∷ Decode ∷ Report
+verbs = Identify ∷ Info ∷ Imd ∷ Archive ∷ Read ∷ Show ∷ DecodeFolder ∷ DecodeSet ∷ Rescue ∷ Decode ∷ Report
     ∷ Map ∷ Write ∷ Split ∷ Unpack ∷ Turns ∷ ToG64 ∷ FromG64 ∷ Trial ∷ Help ∷ []
 
 -- its first word
@@ -25,6 +27,7 @@ unfoldable pub verb_word : Verb → List ℕ
 verb_word Identify = codes "identify"
 verb_word Info = codes "info"
 verb_word Imd = codes "imd"
+verb_word Archive = codes "archive"
 verb_word Read = codes "read"
 verb_word Show = codes "show"
 verb_word DecodeFolder = codes "decode-folder"
@@ -47,6 +50,7 @@ unfoldable pub verb_texts : Verb → Texts (record { now : List ℕ })
 verb_texts Identify = IDENTIFY
 verb_texts Info = INFO
 verb_texts Imd = IMD
+verb_texts Archive = ARCHIVE
 verb_texts Read = READ
 verb_texts Show = SHOW
 verb_texts DecodeFolder = DECODE_FOLDER
@@ -76,6 +80,7 @@ abbrev pub is_own : Verb → Bool
 is_own Identify = true
 is_own Info = true
 is_own Imd = true
+is_own Archive = true
 is_own Read = true
 is_own Show = true
 is_own Rescue = true
@@ -91,6 +96,7 @@ abbrev pub asks_format : Verb → Bool
 asks_format Identify = false
 asks_format Info = false
 asks_format Imd = false
+asks_format Archive = false
 asks_format Show = false
 asks_format Split = false
 asks_format Unpack = false

@@ -12,6 +12,8 @@ pub enum Verb {
     Info,
     /// Any IBM disk of its dumps, as a file of ImageDisk.
     Imd,
+    /// All that is kept of a disk of its dumps, to files of a folder.
+    Archive,
     /// The files of several dumps to an image.
     Read,
     /// What dumps have of one sector.
@@ -47,10 +49,11 @@ pub enum Verb {
 }
 
 /// All commands, in the order in which the help lists them.
-const VERBS: [Verb; 19] = [
+const VERBS: [Verb; 20] = [
     Verb::Identify,
     Verb::Info,
     Verb::Imd,
+    Verb::Archive,
     Verb::Read,
     Verb::Show,
     Verb::DecodeFolder,
@@ -130,6 +133,21 @@ data. The report on standard error tells these, each name that is left out, and 
 
 Example:
    flux imd dump > disk.imd 2> report.txt
+",
+};
+
+const ARCHIVE: Texts<&str> = Texts {
+    word: "archive",
+    line: "   archive FOLDER DUMP...       a disk of its dumps to all that is kept of it, as files\n",
+    usage: "usage: flux archive [--format FORMAT [--double-step]] FOLDER DUMP...\n",
+    about: "
+Makes the folder, which must not be there, and in it, one after another, report.txt, the report that read writes of the dumps,
+disk.EXT, its image, disk.svg, the picture that read --picture draws, and summary.json, one line that other programs read. That
+line goes to standard output too. The disk and its steps are the best that identify names of the first dump; with --format it is
+not asked. The exit code is that of read; where no disk is found nothing is made. Where a file is not made, those before are whole.
+
+Example:
+   flux archive disk1 dump second
 ",
 };
 
@@ -372,6 +390,7 @@ impl Verb {
             Verb::Identify
                 | Verb::Info
                 | Verb::Imd
+                | Verb::Archive
                 | Verb::Read
                 | Verb::Show
                 | Verb::Rescue
@@ -393,6 +412,7 @@ impl Verb {
                 | Verb::Identify
                 | Verb::Info
                 | Verb::Imd
+                | Verb::Archive
                 | Verb::Show
                 | Verb::Split
                 | Verb::Unpack
@@ -412,6 +432,7 @@ impl Verb {
             Verb::Identify => IDENTIFY,
             Verb::Info => INFO,
             Verb::Imd => IMD,
+            Verb::Archive => ARCHIVE,
             Verb::Read => READ,
             Verb::Show => SHOW,
             Verb::DecodeFolder => DECODE_FOLDER,

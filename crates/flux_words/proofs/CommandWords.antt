@@ -5,10 +5,10 @@ use Rattle.flux_help.specs.Verbs.{verb_of}
 use Rattle.flux_help.specs.declared.page.Page.{Page}
 use Rattle.flux_help.specs.declared.page.Page.TheVariants.{Help as AllPages, Version, About}
 use Rattle.flux_help.specs.declared.verb.Verb.{Verb}
-use Rattle.flux_help.specs.declared.verb.Verb.TheVariants.{Identify, Imd, Info, Read, Show, DecodeFolder, DecodeSet, Rescue, Decode, Report, Map, Write, Split, Unpack, Turns, ToG64, FromG64, Trial, Help}
+use Rattle.flux_help.specs.declared.verb.Verb.TheVariants.{Archive, Identify, Imd, Info, Read, Show, DecodeFolder, DecodeSet, Rescue, Decode, Report, Map, Write, Split, Unpack, Turns, ToG64, FromG64, Trial, Help}
 use Rattle.sector_images.specs.Formats.{WordsBeginWithLetters, WordsNameFormats}
 use Rattle.sector_images.specs.declared.format.Format.{Format}
-use Rattle.flux_words.specs.Asked.{Asked, a_folder, some_dumps, a_sector, an_identity, an_imd_file, told_files, written_streams, written_files, split_streams, unpacked_file, a_trial, a_g64_file, an_image_of_g64, a_page}
+use Rattle.flux_words.specs.Asked.{Asked, a_folder, some_dumps, a_sector, an_archive, an_identity, an_imd_file, told_files, written_streams, written_files, split_streams, unpacked_file, a_trial, a_g64_file, an_image_of_g64, a_page}
 use Rattle.flux_words.specs.CommandWords.{AreBehind, AreByVerb, AreFilesWords, AreStreams, AskFor, AskOnce, IsDashed, IsFormat, IsFormatWith, IsOfHeads, IsPageWord, streams_of}
 use Rattle.stream_files.specs.declared.heads.Heads.{Heads}
 use Rattle.stream_files.specs.declared.heads.Heads.TheVariants.{One, Two}
@@ -21,6 +21,7 @@ use Rattle.flux_words.specs.declared.commands.Way.{Way}
 use Rattle.flux_words.specs.declared.commands.Way.TheVariants.{Often}
 use Rattle.flux_words.specs.declared.g64_disk.G64Disk.{G64Disk}
 use Rattle.flux_words.specs.declared.g64_disk.G64Disk.TheVariants.{Tracks35, Tracks40}
+use Rattle.flux_words.proofs.ArchiveWords.{one_archive}
 use Rattle.flux_words.proofs.DumpWords.{disk-past, one-disk, one-format}
 use Rattle.flux_words.proofs.OptionWords.{head-same, one-named, tail-same}
 use Rattle.flux_words.proofs.SectorWords.{one-place, place-past}
@@ -103,6 +104,7 @@ module _ (names : WordsNameFormats) (letters : WordsBeginWithLetters) where
     one_behind Identify a b p q = p.2 ∙ ap an_identity (head-same _ _ _ _ (sym p.1.0 ∙ q.1.0)) ∙ sym q.2
     one_behind Info a b p q = p.2 ∙ ap told_files (head-same _ _ _ _ (sym p.1.0 ∙ q.1.0)) ∙ sym q.2
     one_behind Imd a b p q = p.2 ∙ ap an_imd_file (p.1.is ∙ sym q.1.is) ∙ sym q.2
+    one_behind Archive a b p q = p.3 ∙ ap an_archive (one_archive names others p.0 q.0 p.1 q.1) ∙ sym q.3
     one_behind Write a b (inl p) (inl q) = p.2 ∙ ap written_streams (same_format p.0 q.0 p.1 q.1) ∙ sym q.2
     one_behind Write a b (inl p) (inr q) = (let wrong : 1 ≡ 3 = ap length (sym p.1.1 ∙ q.2.1) in absurd (omega (arith, wrong)))
     one_behind Write a b (inr p) (inl q) = (let wrong : 3 ≡ 1 = ap length (sym p.2.1 ∙ q.1.1) in absurd (omega (arith, wrong)))

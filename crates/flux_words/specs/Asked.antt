@@ -3,13 +3,14 @@ use Rattle.std.specs.Prelude.{ℕ, List}
 use Rattle.flux_help.specs.declared.page.Page.{Page}
 use Rattle.sector_images.specs.declared.format.Format.{Format}
 use Rattle.stream_files.specs.declared.heads.Heads.{Heads}
+use Rattle.flux_words.specs.ArchiveWords.{AskedArchive, asked_archive}
 use Rattle.flux_words.specs.DumpWords.{AskedDumps, asked_dumps}
 use Rattle.flux_words.specs.ImdWords.{AskedImd, asked_imd}
 use Rattle.flux_words.specs.SectorWords.{AskedSector, asked_sector}
 use Rattle.flux_words.specs.declared.commands.Command.{Command}
 use Rattle.flux_words.specs.declared.commands.Command.TheVariants.{Turns, Streams, Folder, Dumps}
-use Rattle.flux_words.specs.declared.commands.Command.TheVariants.{Sector, Identify, Imd, Info, Write}
-use Rattle.flux_words.specs.declared.commands.Command.TheVariants.{WriteFiles, Split, Unpack}
+use Rattle.flux_words.specs.declared.commands.Command.TheVariants.{Archive, Sector, Identify, Imd, Info}
+use Rattle.flux_words.specs.declared.commands.Command.TheVariants.{Write, WriteFiles, Split, Unpack}
 use Rattle.flux_words.specs.declared.commands.Command.TheVariants.{Trial, ToG64, FromG64, Tell}
 use Rattle.flux_words.specs.declared.commands.StreamsAsked.{StreamsAsked}
 use Rattle.flux_words.specs.declared.g64_disk.G64Disk.{G64Disk}
@@ -31,6 +32,8 @@ pub data Asked : Type 0 where
   told_files : (dump : List ℕ) → Asked
   -- any IBM disk of its dumps, as a file of ImageDisk
   an_imd_file : AskedImd → Asked
+  -- all that is kept of a disk of its dumps, as files of a folder
+  an_archive : AskedArchive → Asked
   -- the streams of an image
   written_streams : Format → Asked
   -- the same as files of a folder
@@ -55,6 +58,7 @@ asked_of (Sector asked) = a_sector (asked_sector asked)
 asked_of (Identify dump) = an_identity dump.now
 asked_of (Info dump) = told_files dump.now
 asked_of (Imd asked) = an_imd_file (asked_imd asked)
+asked_of (Archive asked) = an_archive (asked_archive asked)
 asked_of (Write format) = written_streams format
 asked_of (WriteFiles format folder) = written_files format folder.now
 asked_of (Split folder heads) = split_streams folder.now heads

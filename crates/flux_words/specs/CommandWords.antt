@@ -5,10 +5,10 @@ use Rattle.flux_help.specs.Verbs.{verb_of}
 use Rattle.flux_help.specs.declared.page.Page.{Page}
 use Rattle.flux_help.specs.declared.page.Page.TheVariants.{Help as AllPages, Version, About}
 use Rattle.flux_help.specs.declared.verb.Verb.{Verb}
-use Rattle.flux_help.specs.declared.verb.Verb.TheVariants.{Identify, Imd, Info, Read, Show, DecodeFolder}
-use Rattle.flux_help.specs.declared.verb.Verb.TheVariants.{DecodeSet, Rescue, Decode, Report, Map}
-use Rattle.flux_help.specs.declared.verb.Verb.TheVariants.{Write, Split, Unpack, Turns, ToG64}
-use Rattle.flux_help.specs.declared.verb.Verb.TheVariants.{FromG64, Trial, Help}
+use Rattle.flux_help.specs.declared.verb.Verb.TheVariants.{Archive, Identify, Imd, Info, Read, Show}
+use Rattle.flux_help.specs.declared.verb.Verb.TheVariants.{DecodeFolder, DecodeSet, Rescue, Decode}
+use Rattle.flux_help.specs.declared.verb.Verb.TheVariants.{Report, Map, Write, Split, Unpack, Turns}
+use Rattle.flux_help.specs.declared.verb.Verb.TheVariants.{ToG64, FromG64, Trial, Help}
 use Rattle.sector_images.specs.Formats.{IsWordOfFormat}
 use Rattle.sector_images.specs.declared.format.Format.{Format}
 use Rattle.stream_files.specs.declared.heads.Heads.{Heads}
@@ -16,7 +16,8 @@ use Rattle.stream_files.specs.declared.heads.Heads.TheVariants.{One, Two}
 use Rattle.track_shelf.specs.Names.{is_folder}
 use Rattle.flux_words.specs.Asked.{Asked, the_turns, some_streams, a_folder, some_dumps, a_sector}
 use Rattle.flux_words.specs.Asked.{an_identity, told_files, written_streams, a_trial, a_g64_file}
-use Rattle.flux_words.specs.Asked.{an_imd_file}
+use Rattle.flux_words.specs.ArchiveWords.{AskedArchive, AreArchiveWords}
+use Rattle.flux_words.specs.Asked.{an_archive, an_imd_file}
 use Rattle.flux_words.specs.Asked.{an_image_of_g64, a_page}
 use Rattle.flux_words.specs.Asked.{written_files, split_streams, unpacked_file}
 use Rattle.flux_words.specs.Counts.{IsCount}
@@ -100,6 +101,9 @@ AreBehind Identify others asked =
 AreBehind Info others asked = (dump : List ℕ) × IsDump others dump × (asked ≡ told_files dump)
 AreBehind Imd others asked =
     (disk : AskedImd) × AreImdWords others disk × (asked ≡ an_imd_file disk)
+AreBehind Archive others asked =
+    (archive : AskedArchive) × AreArchiveWords others archive × CanBeMade archive.folder
+    × (asked ≡ an_archive archive)
 AreBehind Write others asked =
     ((format : Format) × IsFormat format others × (asked ≡ written_streams format))
     ⊎ AreFilesWords others asked

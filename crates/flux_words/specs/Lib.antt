@@ -7,5 +7,6 @@ pub mod CommandWords
 pub mod OptionWords
 pub mod DumpWords
 pub mod ImdWords
+pub mod ArchiveWords
 pub mod SectorWords
 pub mod inside

@@ -2,9 +2,9 @@
 
 ghost use Rattle.std.specs.Prelude.{◌≡◌, ◌⊎◌, ◌↔◌, IsTrue, ℕ, List, IfNone, IfSome};
 ghost use Rattle.std.specs.Option.{option_map};
-ghost use Rattle.flux_help.specs.declared.verb.Verb.TheVariants.{DecodeFolder, DecodeSet, FromG64, Help, Identify};
-ghost use Rattle.flux_help.specs.declared.verb.Verb.TheVariants.{Imd, Info, Read, Show, Split, ToG64, Trial, Turns};
-ghost use Rattle.flux_help.specs.declared.verb.Verb.TheVariants.{Unpack, Write};
+ghost use Rattle.flux_help.specs.declared.verb.Verb.TheVariants.{Archive, DecodeFolder, DecodeSet, FromG64, Help};
+ghost use Rattle.flux_help.specs.declared.verb.Verb.TheVariants.{Identify, Imd, Info, Read, Show, Split, ToG64};
+ghost use Rattle.flux_help.specs.declared.verb.Verb.TheVariants.{Trial, Turns, Unpack, Write};
 ghost use Rattle.flux_words.specs.Asked.{asked_of};
 ghost use Rattle.flux_words.specs.CommandWords.{AreFilesWords, AreStreams, CanBeMade, IsDump, IsFormat};
 ghost use Rattle.flux_words.specs.CommandWords.{IsFormatInFolder, IsFormatWith, IsOfHeads};
@@ -14,6 +14,7 @@ ghost use Rattle.flux_words.specs.Names.{Names};
 ghost use Rattle.flux_words.specs.declared.g64_disk.G64Disk.{G64Disk as Disk};
 ghost use Rattle.sector_images.specs.declared.format.Format.{Format as Kind};
 
+use crate::archive_words::archive_asked;
 use crate::commands::{Command, Output, StreamsAsked, Way};
 use crate::count::count_of;
 use crate::g64_disk::G64Disk;
@@ -277,6 +278,21 @@ pub(crate) fn unpack_behind(others: &[Word]) -> Option<Command<'_>>
         None
     } else if can_be_made(folder) {
         Some(Command::Unpack(file, folder))
+    } else {
+        None
+    }
+}
+
+/// All that is kept of a disk of its dumps, as files of a folder.
+pub(crate) fn archive_behind(others: &[Word]) -> Option<Command<'_>>
+    ensures { AskBehind Archive others.now (option_map asked_of result) }
+{
+    words_name_formats();
+    let Some(asked) = archive_asked(others) else {
+        return None;
+    };
+    if can_be_made(asked.folder) {
+        Some(Command::Archive(asked))
     } else {
         None
     }

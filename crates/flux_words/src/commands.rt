@@ -8,10 +8,11 @@ ghost use Rattle.flux_words.specs.CommandWords.{AskFor, AskOnce, IsDashed, IsPag
 ghost use Rattle.flux_words.specs.inside.CommandWords.{AskBehind};
 ghost use Rattle.flux_words.specs.Names.{Names};
 
+use crate::archive_words::ArchiveAsked;
 use crate::behind::{
-    dump_behind, dumps_behind, folder_behind, from_g64_behind, imd_behind, info_behind,
-    page_behind, sector_behind, set_behind, split_behind, streams_behind, to_g64_behind,
-    trial_behind, turns_behind, unpack_behind, write_behind,
+    archive_behind, dump_behind, dumps_behind, folder_behind, from_g64_behind, imd_behind,
+    info_behind, page_behind, sector_behind, set_behind, split_behind, streams_behind,
+    to_g64_behind, trial_behind, turns_behind, unpack_behind, write_behind,
 };
 use crate::dump_words::DumpsAsked;
 use crate::g64_disk::G64Disk;
@@ -41,6 +42,8 @@ pub enum Command<'a> {
     Info(&'a Word),
     /// Any IBM disk of its dumps, as a file of ImageDisk.
     Imd(ImdAsked<'a>),
+    /// All that is kept of a disk of its dumps, as files of a folder.
+    Archive(ArchiveAsked<'a>),
     /// The streams of a disk's tracks, from its image.
     Write(Format),
     /// The same as files of a folder.
@@ -110,6 +113,7 @@ fn command_behind(verb: Verb, others: &[Word]) -> Option<Command<'_>>
         Verb::Identify => dump_behind(others),
         Verb::Info => info_behind(others),
         Verb::Imd => imd_behind(others),
+        Verb::Archive => archive_behind(others),
         Verb::Read => dumps_behind(others),
         Verb::Show => sector_behind(others),
         Verb::DecodeFolder => folder_behind(others),

@@ -31,7 +31,7 @@ pub(crate) fn imd_asked(others: &[Word]) -> Option<ImdAsked<'_>>
 }
 
 /// The steps of the drive, and the words behind the option.
-fn steps_in(others: &[Word]) -> ImdAsked<'_>
+pub(crate) fn steps_in(others: &[Word]) -> ImdAsked<'_>
     ensures { asked_imd result ≡ asked_in others.now }
 {
     match others {
@@ -47,7 +47,7 @@ fn steps_in(others: &[Word]) -> ImdAsked<'_>
 }
 
 /// Whether there are 1 to 8 dumps, each with a name.
-fn are_named(dumps: &[Word]) -> bool
+pub(crate) fn are_named(dumps: &[Word]) -> bool
     ensures { Decides result (AreNamed dumps.now) }
 {
     !dumps.is_empty() && dumps.len() <= MOST_DUMPS && !has_nameless(dumps)

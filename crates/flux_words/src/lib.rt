@@ -1,6 +1,7 @@
 //! The words of the command line, without the program's name, and what they ask for.
 #![tactic(auto)]
 
+mod archive_words;
 mod behind;
 mod commands;
 mod count;
@@ -11,6 +12,7 @@ mod options;
 mod sector_words;
 mod seed;
 
+pub use archive_words::{ArchiveAsked, DiskAsked};
 pub use commands::{Command, Output, StreamsAsked, Way, command_of, words_ask_once};
 pub use dump_words::DumpsAsked;
 pub use g64_disk::G64Disk;
