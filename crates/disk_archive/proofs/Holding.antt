@@ -1,0 +1,150 @@
+-- A disk that lies in memory, and one that does not.
+use Rattle.std.specs.Prelude.{◌||◌, if◌then◌else◌, nat_lt}
+use Rattle.std.proofs.Common.{◌≡◌, ℕ, Bool, true, false, List, [], Option, Some, Ok, Err, inl, inr, arith, refl, sym, ap, ◌∙◌, subst}
+use Rattle.std.proofs.lemmas.Bool.Decides.{nat_tests}
+use Rattle.disk_summary.specs.Dumps.{DrewNoted}
+use Rattle.disk_summary.specs.Texts.{notes_text, summary_text}
+use Rattle.disk_summary.specs.declared.note.Note.{Note}
+use Rattle.disk_summary.specs.declared.summary.Summary.{Summary}
+use Rattle.dump_identity.specs.declared.candidate.Candidate.{Candidate}
+use Rattle.dump_reading.specs.Files.{ShelfNow}
+use Rattle.dump_reading.specs.Outcomes.{IsToldEmpty}
+use Rattle.dump_reading.specs.Totals.{is_complete}
+use Rattle.dump_reading.specs.declared.totals.DumpTotals.{DumpTotals}
+use Rattle.flux_base.specs.Memory.{SinkState}
+use Rattle.flux_base.specs.declared.status.Status.{Status}
+use Rattle.flux_base.specs.declared.status.Status.TheVariants.{AllGood, NotAllGood}
+use Rattle.track_shelf.specs.Files.{File}
+use Rattle.track_shelf.specs.Told.{ShelfTold}
+use Rattle.disk_archive.specs.Answers.{HasHeld, IsKept, IsUnheld, ShelfDid, StatusTells, disk_as, have_lost, status_of, summary_of}
+use Rattle.disk_archive.specs.Finding.{Asked, FailedIf, FailedSome, HasFound, HasNotFound, IsDisk}
+use Rattle.disk_archive.specs.Kept.{Kept}
+use Rattle.disk_archive.specs.Reading.{HasDrawn, HasRead, IsUnread}
+use Rattle.disk_archive.specs.declared.fault.ArchiveFault.{ArchiveFault}
+use Rattle.disk_archive.specs.declared.fault.ArchiveFault.TheVariants.{Exists, FileFault, FolderFault, Memory, NoDisk, NoFiles, OutputFault}
+use Rattle.disk_archive.specs.declared.held.FoundDisk.{FoundDisk}
+use Rattle.disk_archive.specs.declared.held.HeldDisk.{HeldDisk}
+use Rattle.disk_archive.specs.declared.reading.Drawn.{Drawn}
+use Rattle.disk_archive.specs.declared.reading.Report.{Report}
+use Rattle.disk_archive.proofs.Readings.{drawn-failed, read-failed}
+use Rattle.disk_archive.proofs.Shelves.{if-some, if-then, same-some, some-then}
+
+-- files that fail are on the shelf still
+same_files : (start mid : ShelfNow) → FailedSome start mid → mid.told.files ≡ start.told.files
+same_files start mid (often, shelf) = ap (λ (t : ShelfTold). t.files) shelf.told
+
+module _ (asked : Asked) (start : ShelfNow) where
+  pub not-found : (now : ShelfNow) (fault : ArchiveFault) → HasNotFound asked start now fault → IsUnheld asked start now fault
+  not-found now Memory (none, same) = same-some start now same
+  not-found now (NoFiles empty) (none, (first, lacks, same)) = (inl (none, first, lacks), same-some start now same)
+  not-found now NoDisk (none, (best, some)) = ((none, best), some)
+  not-found now Exists (none, never) = absurd never
+  not-found now FolderFault (none, never) = absurd never
+  not-found now (FileFault file) (none, never) = absurd never
+  not-found now OutputFault (none, never) = absurd never
+
+  pub not-read : (begun mid now : ShelfNow) (candidate : Candidate) (fault : ArchiveFault) → IsDisk asked start begun candidate → FailedSome start mid
+      → IsUnread (disk_as asked candidate) mid now fault → IsUnheld asked start now fault
+  not-read begun mid now candidate Memory disk some more = some-then some more
+  not-read begun mid now candidate (NoFiles empty) disk some (lacks, same) = (
+    inr (begun, candidate, disk, subst (λ (files : Option (List File)). IsToldEmpty (disk_as asked candidate) files (Some empty.dump)) (same_files start mid some) lacks),
+    some-then some (same-some mid now same),
+  )
+  not-read begun mid now candidate NoDisk disk some never = absurd never
+  not-read begun mid now candidate Exists disk some never = absurd never
+  not-read begun mid now candidate FolderFault disk some never = absurd never
+  not-read begun mid now candidate (FileFault file) disk some never = absurd never
+  not-read begun mid now candidate OutputFault disk some never = absurd never
+
+  pub unheld-some : (now : ShelfNow) (fault : ArchiveFault) → IsUnheld asked start now fault → FailedSome start now
+  unheld-some now Memory some = some
+  unheld-some now (NoFiles empty) (lacks, some) = some
+  unheld-some now NoDisk (lacks, some) = some
+  unheld-some now Exists never = absurd never
+  unheld-some now FolderFault never = absurd never
+  unheld-some now (FileFault file) never = absurd never
+  unheld-some now OutputFault never = absurd never
+
+  -- how often files failed so far
+  pub after-found : (begun : ShelfNow) (found : FoundDisk) → HasFound asked start begun found → FailedSome start begun
+  after-found begun found has = if-some has.shelf
+
+  pub after-read : (begun between : ShelfNow) (candidate : Candidate) (report : Report) → FailedSome start begun → HasRead (disk_as asked candidate) begun between report
+      → FailedSome start between
+  after-read begun between candidate report some reads = some-then some (if-some (read-failed (disk_as asked candidate) begun between _ _ _ _ report.totals reads.1))
+
+  pub after-drawn : (between now : ShelfNow) (candidate : Candidate) (drawn : Drawn) → FailedSome start between → HasDrawn (disk_as asked candidate) between now drawn
+      → FailedSome start now
+  after-drawn between now candidate drawn some draws = some-then some (if-some (drawn-failed (disk_as asked candidate) between now _ _ _ _ drawn.totals draws))
+
+  -- all was read
+  module _ (begun between now : ShelfNow) (found : FoundDisk) (report : Report) (drawn : Drawn) (has : HasFound asked start begun found)
+      (reads : HasRead (disk_as asked found.candidate) begun between report) (draws : HasDrawn (disk_as asked found.candidate) between now drawn) where
+    abbrev lost : Bool
+    lost = have_lost report.totals drawn.totals
+
+    failed_if : FailedIf (found.failed || lost) start now
+    failed_if =
+        if-then found.failed lost has.shelf
+        (if-then (nat_lt 0 report.totals.lost) (nat_lt 0 drawn.totals.lost)
+        (read-failed (disk_as asked found.candidate) begun between _ _ _ _ report.totals reads.1)
+        (drawn-failed (disk_as asked found.candidate) between now _ _ _ _ drawn.totals draws))
+
+    noted_text : drawn.notes.written ≡ notes_text draws.noted
+    noted_text = draws.both.wrote.grew ∙ draws.text
+
+    abbrev held_by : Summary → SinkState → HeldDisk
+    held_by summary line = record { summary = summary; image = report.image; report = report.report; picture = drawn.picture; line = line }
+
+    holds_of : (line : SinkState) → ((ns : List Note) → drawn.notes.written ≡ notes_text ns → line.written ≡ summary_text (summary_of asked found report.totals drawn.totals) ns)
+        → HasHeld asked start now (held_by (summary_of asked found report.totals drawn.totals) line)
+    holds_of line line_is = record {
+      begun = begun;
+      disk = has.disk;
+      some = reads.0;
+      between = between;
+      read = reads.1;
+      drawn = drawn.totals;
+      notes = draws.noted;
+      draws = subst
+          (λ (bytes : List ℕ). DrewNoted (disk_as asked found.candidate) between now (Some []) (Some drawn.picture.written) (Some []) (Some bytes) drawn.totals)
+          noted_text draws;
+      line_is = line_is draws.noted noted_text;
+      dumps = refl;
+      failed = found.failed || lost;
+      shelf = failed_if;
+      status = refl;
+    }
+
+    pub holds : (summary : Summary) (line : SinkState) → summary ≡ summary_of asked found report.totals drawn.totals
+        → ((ns : List Note) → drawn.notes.written ≡ notes_text ns → line.written ≡ summary_text summary ns)
+        → HasHeld asked start now (record { summary = summary; image = report.image; report = report.report; picture = drawn.picture; line = line })
+    holds summary line same line_is =
+        subst (λ (s : Summary). HasHeld asked start now (held_by s line)) (sym same)
+        (holds_of line (λ ns are. line_is ns are ∙ ap (λ (s : Summary). summary_text s ns) same))
+
+-- the status of a disk that is kept tells whether files failed
+status-tells : (failed : Bool) (totals : DumpTotals) (often : ℕ) → failed ≡ nat_lt 0 often → StatusTells (status_of failed totals) often
+status-tells true totals often is = (let test : nat_lt 0 often ≡ true = sym is in grind (arith, nat_tests, test))
+status-tells false totals often is =
+    let test : nat_lt 0 often ≡ false = sym is in
+    let none : often ≡ 0 = grind (arith, nat_tests, test) in
+    by (is_complete totals) none
+  where
+    by : (complete : Bool) → often ≡ 0 → StatusTells (if complete then AllGood else NotAllGood) often
+    by true none = none
+    by false none = none
+
+module _ (asked : Asked) (start now : ShelfNow) where
+  pub kept-did : (kept : Kept) (status : Status) → status ≡ kept.summary.status → IsKept asked start now kept → ShelfDid start now (Ok status)
+  kept-did kept status same is = record {
+    often = is.shelf.often;
+    shelf = is.shelf.shelf;
+    tells = subst (λ (s : Status). StatusTells s is.shelf.often) (sym (same ∙ is.status)) (status-tells is.failed kept.summary.totals is.shelf.often is.shelf.is);
+  }
+
+  pub some-did : (fault : ArchiveFault) → FailedSome start now → ShelfDid start now (Err fault)
+  some-did fault (often, shelf) = record { often = often; shelf = shelf; tells = tt }
+
+  pub kept-some : (kept : Kept) → IsKept asked start now kept → FailedSome start now
+  kept-some kept is = if-some is.shelf

@@ -1,0 +1,6 @@
+pub mod Shelves
+pub mod Bests
+pub mod Readings
+pub mod Holding
+pub mod MadeFiles
+pub mod Saying

@@ -1,0 +1,166 @@
+-- What keeping a disk may answer, and what that says of its dumps, of the files that are made, and of
+-- the line that is written.
+use Rattle.std.specs.Prelude.{◌≡◌, ◌<◌, ◌⊎◌, ◌||◌, ℕ, Bool, true, false, if◌then◌else◌, nat_lt, List, []}
+use Rattle.std.specs.Prelude.{length, Option, Some, None, Result, Ok, Err}
+use Rattle.disk_summary.specs.Dumps.{DrewNoted}
+use Rattle.disk_summary.specs.Texts.{notes_text, summary_text}
+use Rattle.disk_summary.specs.declared.note.Note.{Note}
+use Rattle.disk_summary.specs.declared.summary.Summary.{Summary}
+use Rattle.dump_identity.specs.Outcomes.{HasNoFiles}
+use Rattle.dump_identity.specs.declared.candidate.Candidate.{Candidate}
+use Rattle.dump_reading.specs.Files.{ShelfNow}
+use Rattle.dump_reading.specs.Outcomes.{DumpDisk, IsToldEmpty, WroteDumps}
+use Rattle.dump_reading.specs.Totals.{is_complete}
+use Rattle.dump_reading.specs.declared.looks.Looks.TheVariants.{Always}
+use Rattle.dump_reading.specs.declared.totals.DumpTotals.{DumpTotals}
+use Rattle.file_maker.specs.Made.{Made, has_folder}
+use Rattle.flux_base.specs.Blames.{Blame, no_one, the_image, the_source}
+use Rattle.flux_base.specs.declared.status.Status.{Status}
+use Rattle.flux_base.specs.declared.status.Status.TheVariants.{AllGood, NotAllGood, ShelfFault}
+use Rattle.flux_engine.specs.declared.plan.Clocks.TheVariants.{Both}
+use Rattle.disk_archive.specs.Finding.{Asked, FailedIf, FailedOften, FailedSome, IsBest, IsDisk}
+use Rattle.disk_archive.specs.Finding.{first_dump}
+use Rattle.disk_archive.specs.Kept.{Kept, kept_of}
+use Rattle.disk_archive.specs.Making.{WritesKept}
+use Rattle.disk_archive.specs.declared.fault.ArchiveFault.{ArchiveFault}
+use Rattle.disk_archive.specs.declared.fault.ArchiveFault.TheVariants.{Exists, FileFault, FolderFault}
+use Rattle.disk_archive.specs.declared.fault.ArchiveFault.TheVariants.{Memory, NoDisk, NoFiles}
+use Rattle.disk_archive.specs.declared.fault.ArchiveFault.TheVariants.{OutputFault}
+use Rattle.disk_archive.specs.declared.held.FoundDisk.{FoundDisk}
+use Rattle.disk_archive.specs.declared.held.HeldDisk.{HeldDisk}
+
+-- whether a file failed, and else whether the image is all that can be read there
+abbrev pub status_of : (failed : Bool) → DumpTotals → Status
+status_of failed totals =
+    if failed then ShelfFault else (if is_complete totals then AllGood else NotAllGood)
+
+-- the dumps as a disk, read as `read` does: by both clocks, and with all files beside its tracks
+abbrev pub disk_as : Asked → Candidate → DumpDisk
+disk_as asked candidate = record {
+  stepping = candidate.stepping;
+  dumps = asked.dumps;
+  format = candidate.format;
+  clocks = Both;
+  looks = Always;
+}
+
+abbrev pub candidate_of : Summary → Candidate
+candidate_of summary = record { stepping = summary.stepping; format = summary.format }
+
+-- What is kept: the disk was found, and read twice, for its image and report, and for its picture and
+-- the notes of its summary. Its numbers are the report's, and its status tells all files that
+-- failed.
+pub record IsKept (asked : Asked) (start now : ShelfNow) (kept : Kept) : Type 0 where
+  pub begun : ShelfNow
+  pub disk : IsDisk asked start begun (candidate_of kept.summary)
+  pub some : IsToldEmpty (disk_as asked (candidate_of kept.summary)) begun.told.files None
+  pub between : ShelfNow
+  pub read : WroteDumps (disk_as asked (candidate_of kept.summary)) begun between (Some [])
+      (Some kept.image) (Some []) (Some kept.report) kept.summary.totals
+  pub drawn : DumpTotals
+  pub notes : List Note
+  pub draws : DrewNoted (disk_as asked (candidate_of kept.summary)) between now (Some [])
+      (Some kept.picture) (Some []) (Some (notes_text notes)) drawn
+  pub line_is : kept.line ≡ summary_text kept.summary notes
+  pub dumps : kept.summary.dumps ≡ length asked.dumps
+  pub failed : Bool
+  pub shelf : FailedIf failed start now
+  pub status : kept.summary.status ≡ status_of failed kept.summary.totals
+
+-- none is asked for, and the first dump has no file
+abbrev pub LacksAll : Asked → (start : ShelfNow) → (dump : ℕ) → Type 0
+LacksAll asked start dump =
+    (asked.disk ≡ None) × (dump ≡ 0) × HasNoFiles (first_dump asked) start.told.files
+
+-- or no best
+abbrev pub LacksDisk : Asked → (start now : ShelfNow) → Type 0
+LacksDisk asked start now = (asked.disk ≡ None) × IsBest (first_dump asked) start now None
+
+-- a file failed in one of two readings, by what these came to
+abbrev pub have_lost : (read drawn : DumpTotals) → Bool
+have_lost read drawn = nat_lt 0 read.lost || nat_lt 0 drawn.lost
+
+-- the summary's numbers by these
+abbrev pub summary_of : Asked → FoundDisk → (read drawn : DumpTotals) → Summary
+summary_of asked found read drawn = record {
+  format = found.candidate.format;
+  stepping = found.candidate.stepping;
+  dumps = length asked.dumps;
+  totals = read;
+  status = status_of (found.failed || have_lost read drawn) read;
+}
+
+-- a dump has none of the disk's files, or the first one has none at all
+abbrev pub LacksFiles : Asked → (start : ShelfNow) → (dump : ℕ) → Type 0
+LacksFiles asked start dump =
+    LacksAll asked start dump
+    ⊎ ((begun : ShelfNow) × (candidate : Candidate) × IsDisk asked start begun candidate
+    × IsToldEmpty (disk_as asked candidate) start.told.files (Some dump))
+
+-- what is said of a disk that lies in memory, and of one that does not
+abbrev pub HasHeld : Asked → (start now : ShelfNow) → HeldDisk → Type 0
+HasHeld asked start now held = IsKept asked start now (kept_of held)
+
+abbrev pub IsUnheld : Asked → (start now : ShelfNow) → ArchiveFault → Type 0
+IsUnheld asked start now Memory = FailedSome start now
+IsUnheld asked start now (NoFiles empty) =
+    LacksFiles asked start empty.dump × FailedSome start now
+IsUnheld asked start now NoDisk = LacksDisk asked start now × FailedSome start now
+IsUnheld asked start now _ = ⊥
+
+-- whether the folder is there, where it is told
+abbrev pub IsThere : Option Made → (folder : List ℕ) → Bool → Type 0
+IsThere made folder there =
+    (told : Made) → made ≡ Some told → there ≡ has_folder folder told.folders
+
+-- nothing was made, and nothing written
+abbrev pub IsUntouched : (made made' : Option Made) → (line line' : Option (List ℕ)) → Type 0
+IsUntouched made made' line line' = (made' ≡ made) × (line' ≡ line)
+
+-- all was read, and this was made of it
+abbrev pub MakesKept : Asked → (start now : ShelfNow) → (made made' : Option Made)
+    → (line line' : Option (List ℕ)) → Kept → Result (Unit {0}) ArchiveFault → Type 0
+MakesKept asked start now made made' line line' kept answer =
+    IsThere made asked.folder false × IsKept asked start now kept
+    × WritesKept asked.folder kept made made' line line' answer
+
+-- What an answer says.
+abbrev pub SaysOfArchive : Asked → (start now : ShelfNow) → (made made' : Option Made)
+    → (line line' : Option (List ℕ)) → Result Status ArchiveFault → Type 0
+SaysOfArchive asked start now made made' line line' (Ok status) =
+    (kept : Kept) × MakesKept asked start now made made' line line' kept (Ok tt)
+    × (status ≡ kept.summary.status)
+SaysOfArchive asked start now made made' line line' (Err Exists) =
+    IsThere made asked.folder true × (now ≡ start) × IsUntouched made made' line line'
+SaysOfArchive asked start now made made' line line' (Err Memory) =
+    IsUntouched made made' line line'
+SaysOfArchive asked start now made made' line line' (Err (NoFiles empty)) =
+    LacksFiles asked start empty.dump × IsUntouched made made' line line'
+SaysOfArchive asked start now made made' line line' (Err NoDisk) =
+    LacksDisk asked start now × IsUntouched made made' line line'
+SaysOfArchive asked start now made made' line line' (Err fault) =
+    (kept : Kept) × MakesKept asked start now made made' line line' kept (Err fault)
+
+-- the status tells whether files failed
+abbrev pub StatusTells : Status → (often : ℕ) → Type 0
+StatusTells AllGood often = often ≡ 0
+StatusTells NotAllGood often = often ≡ 0
+StatusTells ShelfFault often = 0 < often
+StatusTells _ often = ⊥
+
+abbrev pub AnswerTells : Result Status ArchiveFault → (often : ℕ) → Type 0
+AnswerTells (Ok status) often = StatusTells status often
+AnswerTells (Err fault) often = Unit {0}
+
+pub record ShelfDid (start now : ShelfNow) (answer : Result Status ArchiveFault) : Type 0 where
+  pub often : ℕ
+  pub shelf : FailedOften often start now
+  pub tells : AnswerTells answer often
+
+-- The object of which an answer tells a fault: what makes files stands in the place of a source, and
+-- the sink of the line in that of an image's.
+abbrev pub archive_blame : {A : Type 0} → Result A ArchiveFault → Blame
+archive_blame (Err FolderFault) = the_source
+archive_blame (Err (FileFault file)) = the_source
+archive_blame (Err OutputFault) = the_image
+archive_blame _ = no_one

@@ -1,0 +1,6 @@
+pub mod Names
+pub mod Kept
+pub mod Finding
+pub mod Reading
+pub mod Making
+pub mod Answers
