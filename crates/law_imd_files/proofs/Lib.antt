@@ -4,3 +4,4 @@ pub mod Exact
 pub mod Joined
 pub mod Lists
 pub mod Records
+pub mod Reading

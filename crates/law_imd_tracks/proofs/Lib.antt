@@ -1,2 +1,5 @@
 pub mod Marks
+pub mod Searches
+pub mod Standing
+pub mod Formats
 pub mod Names

@@ -1,5 +1,5 @@
 -- Data in a stretch of a track's repeated ring have the mark of data.
-use Rattle.std.proofs.Common.{◌≡◌, ◌<◌, ◌+◌, ℕ, Bool, List, drop, arith}
+use Rattle.std.proofs.Common.{◌≡◌, ◌<◌, ◌+◌, ℕ, List, drop, arith}
 use Rattle.cell_bits.specs.Bytes.{data_byte}
 use Rattle.disk_recordings.specs.Laws.{AreTrackBytes}
 use Rattle.disk_recordings.specs.Members.{data_at, header_at, ring_at}

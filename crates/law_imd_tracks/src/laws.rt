@@ -1,6 +1,7 @@
 //! What the headers of a captured track say.
 
 ghost use Rattle.law_imd_tracks.specs.Headline.{CapturedTracksHaveOwnNames};
+ghost use Rattle.law_imd_tracks.specs.Standing.{StandingSectorsAreNamed};
 
 use disk_recordings::{
     DiskRecording, headers_have_names, rewritten_tracks_are_read, rewritten_tracks_have_only_own,
@@ -29,4 +30,13 @@ pub fn captured_tracks_have_own_names()
     no_fm_data_are_deleted();
     no_mfm_data_are_deleted();
     sectors_lie_in_images()
+}
+
+/// What stands as a sector in a stream's cells, as controllers read a format of one of IBM's two recordings, has by the
+/// format's rate and that clock a header of its name, and whole data of that name with its bytes behind a mark.
+pub fn standing_sectors_are_named()
+    ensures { StandingSectorsAreNamed }
+{
+    headers_have_names();
+    rewritten_tracks_are_read()
 }
