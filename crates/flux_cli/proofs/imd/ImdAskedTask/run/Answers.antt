@@ -7,6 +7,7 @@ use Rattle.flux_cli.specs.ImdRuns.{imd_status, imd_work}
 use Rattle.imd_image.specs.Outcomes.{DumpsAsked}
 use Rattle.dump_reading.specs.lemmas.Coming.{none-failed}
 use Rattle.flux_cli.specs.ShelfWork.{ends_over_shelf}
+use Rattle.flux_cli.specs.Blamed.{nothing}
 use Rattle.flux_cli.proofs.imd.ImdAskedTask.run.Goals as goal
 
 pub returns-in-Ok-clause-did : goal.returns-in-Ok-clause-did
@@ -38,4 +39,4 @@ pub returns-in-Err-clause-did : goal.returns-in-Err-clause-did
 returns-in-Err-clause-did g c = (record { answer = tt; says = refl; keeps = ([], none-failed _) }, refl, refl)
 
 pub returns-in-Err-clause-counts : goal.returns-in-Err-clause-counts
-returns-in-Err-clause-counts g c = memoryless true false _ _ _ _ _
+returns-in-Err-clause-counts g c = memoryless true nothing _ _ _ _ _
