@@ -1,0 +1,5 @@
+pub mod Pieces
+pub mod Summing
+pub mod Passing
+pub mod Finding
+pub mod Noting
