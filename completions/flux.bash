@@ -14,24 +14,26 @@ _flux()
             *" $before "*) options=" $options" options=${options/" $before "/ } at=$((at + 1)) ;;
             *) break ;;
         esac
-        # Behind this one stands a number.
+        # Behind this one stands a number or a format.
         case " $valued" in
             *" $before "*) at=$((at + 1)) ;;
         esac
         if [ "$COMP_CWORD" -lt "$at" ]; then
-            return
+            [ "$before" = --format ] || return
+            verb=--format options=""
+            break
         fi
     done
     case $((COMP_CWORD - at)),$verb in
-        -1,*) part='/^Commands:/,/^$/' ;;
         0,help) part='/^Commands:/,/^$/' ;;
         # The disks that emulators keep as G64 files.
         0,to-g64 | 0,from-g64) part='/^   c1541/' ;;
         # Of a disk by its numbers the word's beginning: what follows are the numbers.
-        0,*) part='/^Formats:/,/^$/' numbers="mfm-dd- mfm-hd- mfm-hd360- fm-sd- fm-sd8-" ;;
+        0,* | -1,--format) part='/^Formats:/,/^$/' numbers="mfm-dd- mfm-hd- mfm-hd360- fm-sd- fm-sd8-" ;;
+        -1,*) part='/^Commands:/,/^$/' ;;
         *) return ;;
     esac
-    if [ "$COMP_CWORD" -ge 2 ] && [ "$verb" != help ] && ! flux help 2> /dev/null | grep -q "^   $verb FORMAT"; then
+    if [ "$COMP_CWORD" -ge 2 ] && [ "$verb" != help ] && [ "$verb" != --format ] && ! flux help 2> /dev/null | grep -q "^   $verb FORMAT"; then
         return
     fi
     mapfile -t COMPREPLY < <(compgen -W "$options $numbers $(flux help 2> /dev/null | sed -n "$part"'s/^   \([^ \t,]*\).*/\1/p')" -- "$word")

@@ -3,7 +3,7 @@ use Rattle.std.proofs.Common.{◌≡◌, ℕ, false, List, [], ◌∷◌, Option
 use Rattle.flux_base.specs.declared.status.Status.{Status}
 use Rattle.flux_help.specs.Verbs.{verb_of}
 use Rattle.flux_help.specs.declared.verb.Verb.{Verb}
-use Rattle.flux_help.specs.declared.verb.Verb.TheVariants.{Identify, Imd, Info, Read, Show, DecodeFolder, DecodeSet, Rescue, Decode, Report, Map, Write, Split, Unpack, Turns, ToG64, FromG64, Trial, Help}
+use Rattle.flux_help.specs.declared.verb.Verb.TheVariants.{Archive, Identify, Imd, Info, Read, Show, DecodeFolder, DecodeSet, Rescue, Decode, Report, Map, Write, Split, Unpack, Turns, ToG64, FromG64, Trial, Help}
 use Rattle.flux_words.specs.Asked.{Asked}
 use Rattle.flux_words.specs.CommandWords.{AreBehind, AreByVerb, AreWordsOf, AskFor, AskOnce}
 use Rattle.flux_words.specs.SectorWords.{ArePlaceWords, AskedSector}
@@ -37,6 +37,7 @@ module _ (others : List (List ℕ)) (asked : Asked) where
   keeps_behind Identify p = subst Keeps (sym p.2) tt
   keeps_behind Info p = subst Keeps (sym p.2) tt
   keeps_behind Imd p = subst Keeps (sym p.2) p.1.named
+  keeps_behind Archive p = subst Keeps (sym p.3) p.1.named
   keeps_behind Write (inl p) = subst Keeps (sym p.2) tt
   keeps_behind Write (inr p) = subst Keeps (sym p.4) p.3.a_folder
   keeps_behind Split p = subst Keeps (sym p.6) tt
@@ -61,6 +62,7 @@ module _ (others : List (List ℕ)) (asked : Asked) where
   over_behind Identify p = ap over_dumps (sym p.2)
   over_behind Info p = ap over_dumps (sym p.2)
   over_behind Imd p = ap over_dumps (sym p.2)
+  over_behind Archive p = ap over_dumps (sym p.3)
   over_behind Write (inl p) = ap over_dumps (sym p.2)
   over_behind Write (inr p) = ap over_dumps (sym p.4)
   over_behind Split p = ap over_dumps (sym p.6)
@@ -85,6 +87,7 @@ module _ (others : List (List ℕ)) (asked : Asked) where
   files_behind Identify p = ap asks_files (sym p.2)
   files_behind Info p = ap asks_files (sym p.2)
   files_behind Imd p = ap asks_files (sym p.2)
+  files_behind Archive p = ap asks_files (sym p.3)
   files_behind Write (inl p) = ap (verb_asks_files (Some Write)) p.1.1 ∙ ap asks_files (sym p.2)
   files_behind Write (inr p) = ap (verb_asks_files (Some Write)) p.2.1 ∙ ap asks_files (sym p.4)
   files_behind Split p = ap asks_files (sym p.6)

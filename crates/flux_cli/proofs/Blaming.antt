@@ -11,7 +11,7 @@ use Rattle.flux_cli.proofs.Often.{many-none}
 use Rattle.flux_cli.specs.Runs.{Does}
 use Rattle.flux_cli.specs.Work.{Work}
 use Rattle.flux_cli.specs.World.{Outside}
-use Rattle.flux_cli.specs.Blamed.{CountsOfFiles, IsOfFiles, CountsOfNotes, CountsOfRun, CountsOfShelf, CountsOnShelf, all_counts, is_of_files, shelf_blame, source_blame, tells_unmade}
+use Rattle.flux_cli.specs.Blamed.{CountsOfFiles, FailsKept, IsOfFiles, IsUnmade, Making, nothing, files, files_of_dumps, CountsOfNotes, CountsOfRun, CountsOfShelf, CountsOnShelf, all_counts, is_of_files, shelf_blame, source_blame, tells_unmade}
 
 -- a call that has no notes
 pub CountsBy-noteless : {source source' image image' : FaultCounts} (notes : FaultCounts) (blame : Blame)
@@ -86,20 +86,45 @@ still_shelf true ShelfFault other shelf = absurd (other refl)
 still_shelf false status other shelf = uncalled status other shelf
 
 -- what makes files is not touched either
-still_files : (dumps makes : Bool) (status : Status) → (status ≡ ShelfFault → ⊥) → (shelf maker : FaultCounts) → CountsOfFiles dumps makes status shelf shelf maker maker
-still_files dumps false status other shelf maker = (still_shelf dumps status other shelf, Counts-none maker)
-still_files false true status other shelf maker = (Counts-none shelf, uncalled status other maker)
-still_files true true status other shelf maker = (no_one, no_fault status other, Counts-none shelf, Counts-none maker)
+never_kept : (status : Status) → FailsKept status 0
+never_kept AllGood = refl
+never_kept NotAllGood = refl
+never_kept Refused = tt
+never_kept Usage = tt
+never_kept ReadFault = tt
+never_kept ImageFault = tt
+never_kept NotesFault = tt
+never_kept Memory = tt
+never_kept ShelfFault = tt
+
+pub none_unmade : (status : Status) → IsUnmade status false
+none_unmade AllGood = refl
+none_unmade NotAllGood = refl
+none_unmade Refused = refl
+none_unmade Usage = refl
+none_unmade ReadFault = refl
+none_unmade ImageFault = refl
+none_unmade NotesFault = refl
+none_unmade Memory = refl
+none_unmade ShelfFault = tt
+
+still_files : (dumps : Bool) (makes : Making) (status : Status) → (status ≡ ShelfFault → ⊥) → (shelf maker : FaultCounts) → CountsOfFiles dumps makes status shelf shelf maker maker
+still_files dumps nothing status other shelf maker = (still_shelf dumps status other shelf, Counts-none maker)
+still_files false files status other shelf maker = (Counts-none shelf, uncalled status other maker)
+still_files true files status other shelf maker = (no_one, no_fault status other, Counts-none shelf, Counts-none maker)
+still_files dumps files_of_dumps status other shelf maker =
+    record { often = 0; fails = never_kept status; many = many-none shelf; unmade = false; is_unmade = none_unmade status; making = Counts-none maker }
 
 -- and no line tells of it
-untold_files : (makes fails : Bool) (status : Status) → (status ≡ ShelfFault → ⊥) → (notes notes' : FaultCounts) → Counts fails notes notes'
+untold_files : (makes : Making) (fails : Bool) (status : Status) → (status ≡ ShelfFault → ⊥) → (notes notes' : FaultCounts) → Counts fails notes notes'
     → CountsOfNotes (tells_unmade makes status || false) fails notes notes'
-untold_files false fails status other notes notes' counts = counts
-untold_files true fails status other notes notes' counts = subst (λ (told : Bool). CountsOfNotes (told || false) fails notes notes') (sym (no_files status other)) counts
+untold_files nothing fails status other notes notes' counts = counts
+untold_files files fails status other notes notes' counts = subst (λ (told : Bool). CountsOfNotes (told || false) fails notes notes') (sym (no_files status other)) counts
+untold_files files_of_dumps fails status other notes notes' counts = subst (λ (told : Bool). CountsOfNotes (told || false) fails notes notes') (sym (no_files status other)) counts
 
 module _ {source source' shelf image image' notes notes' maker : FaultCounts} where
   -- a run over the source, which touches neither the shelf nor what makes files
-  pub run-of-source : (dumps makes : Bool) (status : Status) → (status ≡ ShelfFault → ⊥) → CountsBy (source_blame status) (three_counts source image notes) (three_counts source' image' notes')
+  pub run-of-source : (dumps : Bool) (makes : Making) (status : Status) → (status ≡ ShelfFault → ⊥) → CountsBy (source_blame status) (three_counts source image notes) (three_counts source' image' notes')
       → CountsOfRun dumps makes false status (all_counts source shelf image notes maker) (all_counts source' shelf image' notes' maker)
   run-of-source dumps makes status other c =
       record { source = c.source; files = still_files dumps makes status other shelf maker; image = c.image; notes = untold_files makes _ status other notes notes' c.notes }
@@ -108,14 +133,14 @@ memory-other : Memory ≡ ShelfFault → ⊥
 memory-other same = cc
 
 -- there was no memory to begin
-pub memoryless : (dumps makes : Bool) (source shelf image notes maker : FaultCounts)
+pub memoryless : (dumps : Bool) (makes : Making) (source shelf image notes maker : FaultCounts)
     → CountsOfRun dumps makes false Memory (all_counts source shelf image notes maker) (all_counts source shelf image notes maker)
 memoryless dumps makes source shelf image notes maker = run-of-source dumps makes Memory memory-other (CountsBy-none (three_counts source image notes))
 
 module _ {source shelf shelf' image image' notes notes' maker : FaultCounts} where
   -- one over the shelf, which touches neither the source nor what makes files
   pub run-of-shelf : (dumps : Bool) (status : Status) → (status ≡ ReadFault → ⊥) → CountsOnShelf dumps status (three_counts shelf image notes) (three_counts shelf' image' notes')
-      → CountsOfRun dumps false false status (all_counts source shelf image notes maker) (all_counts source shelf' image' notes' maker)
+      → CountsOfRun dumps nothing false status (all_counts source shelf image notes maker) (all_counts source shelf' image' notes' maker)
   run-of-shelf dumps AllGood other c = record { source = Counts-none source; files = (c.shelf, Counts-none maker); image = c.image; notes = c.notes }
   run-of-shelf dumps NotAllGood other c = record { source = Counts-none source; files = (c.shelf, Counts-none maker); image = c.image; notes = c.notes }
   run-of-shelf dumps Refused other c = record { source = Counts-none source; files = (c.shelf, Counts-none maker); image = c.image; notes = c.notes }

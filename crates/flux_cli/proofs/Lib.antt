@@ -16,6 +16,7 @@ pub mod ReadRun
 pub mod IdentityRun
 pub mod InfoRun
 pub mod ImdRun
+pub mod ImdOne
 pub mod SectorRun
 pub mod ReadHeadline
 pub mod Often
@@ -29,3 +30,4 @@ pub mod Making
 pub mod FilesHeadline
 pub mod SplitHeadline
 pub mod Unpacking
+pub mod Archiving

@@ -13,7 +13,7 @@ use Rattle.flux_base.specs.lemmas.Counting.{Counts-none, Counts-then}
 use Rattle.sector_images.specs.declared.format.Format.{Format}
 use Rattle.file_maker.specs.Made.{Made}
 use Rattle.flux_cli.proofs.EndingLaws.{ends-with}
-use Rattle.flux_cli.specs.Blamed.{CountsOfRun, all_counts}
+use Rattle.flux_cli.specs.Blamed.{CountsOfRun, all_counts, files}
 use Rattle.flux_cli.specs.Endings.{EndsBy, refuses}
 use Rattle.flux_cli.specs.FilesWork.{IsOfTracks, files_ending}
 use Rattle.stream_files.specs.Answers.{Answer as SplitAnswer, SplitsStreams}
@@ -72,7 +72,7 @@ of-names split (Err (SplitFileFault stream)) did = (did.says [] (λ of. refl)).0
 -- the counts of all by how the command ended
 module _ {N : Type 0} (source source' shelf image notes maker maker' : FaultCounts) where
   abbrev Counted : Status → Moment N → Type 0
-  Counted status now = CountsOfRun false true false status (all_counts source shelf image notes maker) (all_counts source' shelf image now.counts maker')
+  Counted status now = CountsOfRun false files false status (all_counts source shelf image notes maker) (all_counts source' shelf image now.counts maker')
 
   abbrev Blamed : Blame → Moment N → Type 0
   Blamed blame now = CountsBy blame (three_counts source maker notes) (three_counts source' maker' now.counts)

@@ -11,7 +11,7 @@ use Rattle.g64_image.specs.Laws.{OneFileDisk}
 use Rattle.sector_images.specs.Places.{tracks}
 use Rattle.sector_images.specs.declared.format.Format.{Format}
 use Rattle.sector_report.specs.Lines.{trial_text}
-use Rattle.flux_words.specs.Asked.{Asked, the_turns, some_streams, a_folder, some_dumps, a_sector, an_identity, told_files, an_imd_file, written_streams, written_files, split_streams, unpacked_file, a_trial, a_g64_file, an_image_of_g64, a_page}
+use Rattle.flux_words.specs.Asked.{Asked, the_turns, some_streams, a_folder, some_dumps, a_sector, an_identity, told_files, an_imd_file, an_archive, written_streams, written_files, split_streams, unpacked_file, a_trial, a_g64_file, an_image_of_g64, a_page}
 use Rattle.flux_words.specs.CommandWords.{AskFor, AskOnce}
 use Rattle.flux_words.specs.G64Disks.{format_of}
 use Rattle.flux_cli.proofs.AskedWords.{asked_is}
@@ -44,6 +44,7 @@ module _ (once : AskOnce) (one_file : OneFileDisk) (one_plan : OnePlanned) where
   one_of (an_identity dump) x a b first second = absurd first
   one_of (told_files dump) x a b first second = absurd first
   one_of (an_imd_file asked) x a b first second = absurd first
+  one_of (an_archive asked) x a b first second = absurd first
   one_of (written_streams format) x a b first second = first ∙ sym second
   one_of (written_files format folder) x a b first second = absurd first
   one_of (split_streams folder heads) x a b first second = absurd first

@@ -12,7 +12,7 @@ use Rattle.kryo_stream.specs.Reads.{SourceMoment}
 use Rattle.sector_images.specs.declared.format.Format.{Format}
 use Rattle.track_shelf.specs.Files.{File, LeavesWanted, NamesMissing, first_missing, joined}
 use Rattle.track_shelf.specs.Names.{missing_text}
-use Rattle.flux_words.specs.Asked.{Asked, the_turns, some_streams, a_folder, some_dumps, a_sector, an_identity, told_files, an_imd_file, written_streams, written_files, split_streams, unpacked_file, a_trial, a_g64_file, an_image_of_g64, a_page}
+use Rattle.flux_words.specs.Asked.{Asked, the_turns, some_streams, a_folder, some_dumps, a_sector, an_identity, told_files, an_imd_file, an_archive, written_streams, written_files, split_streams, unpacked_file, a_trial, a_g64_file, an_image_of_g64, a_page}
 use Rattle.flux_words.specs.G64Disks.{format_of}
 use Rattle.flux_words.specs.declared.commands.Output.{Output}
 use Rattle.flux_words.specs.declared.commands.Output.TheVariants.{ImageAndReport, ReportAlone, Picture}
@@ -195,6 +195,7 @@ module _ (laws : Laws) (dump_laws : DumpLaws) {S W N H M : Type 0} (status : Sta
   expected (an_identity dump) keeps did = tt
   expected (told_files dump) keeps did = tt
   expected (an_imd_file asked) keeps did = tt
+  expected (an_archive asked) keeps did = tt
   expected (written_streams format) keeps did = tt
   expected (written_files format folder) keeps did = of_files laws.written laws.written_read format folder keeps before after status did.0
   expected (split_streams folder heads) keeps did = of_split laws.joined folder heads before after status did.0

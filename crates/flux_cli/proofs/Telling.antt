@@ -7,9 +7,9 @@ use Rattle.flux_base.specs.declared.status.Status.{Status}
 use Rattle.flux_base.specs.declared.status.Status.TheVariants.{AllGood, NotAllGood, Refused, Usage, ReadFault, ImageFault, NotesFault, Memory, ShelfFault}
 use Rattle.flux_base.specs.lemmas.Counting.{Counts-then}
 use Rattle.flux_base.specs.Blames.{is_notes}
-use Rattle.flux_cli.specs.Blamed.{CountsOfNotes, CountsOfRun, all_counts, AllCounts, source_blame, tells_unmade}
+use Rattle.flux_cli.specs.Blamed.{CountsOfNotes, CountsOfRun, Making, nothing, files, files_of_dumps, all_counts, AllCounts, source_blame, tells_unmade}
 use Rattle.flux_cli.specs.OutputTold.{RanAndTold, ToldIf, failed_output_text, is_told, tells_faults, with_notes}
-use Rattle.flux_words.specs.Asked.{Asked, the_turns, some_streams, a_folder, some_dumps, a_sector, an_identity, told_files, an_imd_file, written_streams, written_files, split_streams, unpacked_file, a_trial, a_g64_file, an_image_of_g64, a_page}
+use Rattle.flux_words.specs.Asked.{Asked, the_turns, some_streams, a_folder, some_dumps, a_sector, an_identity, told_files, an_imd_file, an_archive, written_streams, written_files, split_streams, unpacked_file, a_trial, a_g64_file, an_image_of_g64, a_page}
 use Rattle.flux_cli.specs.ShelfRuns.{Ran}
 use Rattle.flux_cli.specs.World.{Outside, World, on_shelf, InputMoment, on_source, outside}
 use Rattle.flux_cli.specs.Runs.{Does}
@@ -37,15 +37,17 @@ module _ {N : Type 0} (words : List (List ℕ)) (left after : Moment N) where
   still Says output ShelfFault told says = subst (Says ShelfFault) (sym told) says
 
   -- a fault of the output and the line, by the notes' counts
-  told-counts : (makes told : Bool) (before : FaultCounts) → ToldIf told left after → CountsOfNotes (tells_unmade makes ImageFault || false) false before left.counts
+  told-counts : (makes : Making) (told : Bool) (before : FaultCounts) → ToldIf told left after → CountsOfNotes (tells_unmade makes ImageFault || false) false before left.counts
       → CountsOfNotes (tells_unmade makes ImageFault || told) false before after.counts
-  told-counts false true before line counts = (is_err line.0, Counts-then (is_err line.0) counts line.1.counts)
-  told-counts false false before line counts = subst (λ (m : Moment N). Counts false before m.counts) (sym line) counts
-  told-counts true true before line counts = (is_err line.0, Counts-then (is_err line.0) counts line.1.counts)
-  told-counts true false before line counts = subst (λ (m : Moment N). Counts false before m.counts) (sym line) counts
+  told-counts nothing true before line counts = (is_err line.0, Counts-then (is_err line.0) counts line.1.counts)
+  told-counts nothing false before line counts = subst (λ (m : Moment N). Counts false before m.counts) (sym line) counts
+  told-counts files true before line counts = (is_err line.0, Counts-then (is_err line.0) counts line.1.counts)
+  told-counts files false before line counts = subst (λ (m : Moment N). Counts false before m.counts) (sym line) counts
+  told-counts files_of_dumps true before line counts = (is_err line.0, Counts-then (is_err line.0) counts line.1.counts)
+  told-counts files_of_dumps false before line counts = subst (λ (m : Moment N). Counts false before m.counts) (sym line) counts
 
   -- and by those of all
-  module _ (dumps makes : Bool) (source source' shelf shelf' image image' notes maker maker' : FaultCounts) where
+  module _ (dumps : Bool) (makes : Making) (source source' shelf shelf' image image' notes maker maker' : FaultCounts) where
     abbrev Counted : (told : Bool) → Status → FaultCounts → Type 0
     Counted told status notes' = CountsOfRun dumps makes told status (all_counts source shelf image notes maker) (all_counts source' shelf' image' notes' maker')
 
@@ -61,7 +63,7 @@ module _ {N : Type 0} (words : List (List ℕ)) (left after : Moment N) where
     counts-told ShelfFault told c = subst (λ (m : Moment N). Counted false ShelfFault m.counts) (sym told) c
 
 -- the notes before the line failed no less often than at first
-pub notes-later : (dumps makes : Bool) (status : Status) (before after : AllCounts) → CountsOfRun dumps makes false status before after → before.notes.faults ≤ after.notes.faults
+pub notes-later : (dumps : Bool) (makes : Making) (status : Status) (before after : AllCounts) → CountsOfRun dumps makes false status before after → before.notes.faults ≤ after.notes.faults
 notes-later dumps makes status before after counts = by (tells_unmade makes status || false) (is_notes (source_blame status)) counts.notes
   where
     by : (told fails : Bool) → CountsOfNotes told fails before.notes after.notes → before.notes.faults ≤ after.notes.faults
@@ -85,6 +87,7 @@ output_expected before left notes (a_sector asked) did = tt
 output_expected before left notes (an_identity dump) did = tt
 output_expected before left notes (told_files dump) did = tt
 output_expected before left notes (an_imd_file asked) did = tt
+output_expected before left notes (an_archive asked) did = tt
 output_expected before left notes (written_streams format) did = tt
 output_expected before left notes (written_files format folder) did = did
 output_expected before left notes (split_streams folder heads) did = did

@@ -12,7 +12,7 @@ use Rattle.scp_unpack.specs.Blamed.{unpack_blame}
 use Rattle.scp_unpack.specs.declared.fault.UnpackFault.TheVariants.{Exists, FileFault, FolderFault, NotThere, NotesFault as Untold, ReadFault as Unread, Refused as RefusedFile}
 use Rattle.scp_unpack.specs.declared.unpacking.Unpacked.{Unpacked}
 use Rattle.flux_cli.proofs.EndingLaws.{ends-with}
-use Rattle.flux_cli.specs.Blamed.{CountsOfRun, IsOfFiles, all_counts}
+use Rattle.flux_cli.specs.Blamed.{CountsOfRun, IsOfFiles, all_counts, files}
 use Rattle.flux_cli.specs.Endings.{EndsBy, refuses}
 use Rattle.flux_cli.specs.MakingWork.{TellsUnmade}
 use Rattle.flux_cli.specs.UnpackRuns.{AreOfTable, EndsUnpacking, unpack_status}
@@ -31,7 +31,7 @@ of-table asked made made' notes notes' (Err Untold) says = tt
 -- the counts of all by how the command ended
 module _ {N : Type 0} (source shelf shelf' image notes maker maker' : FaultCounts) where
   abbrev Counted : Status → Moment N → Type 0
-  Counted status now = CountsOfRun true true false status (all_counts source shelf image notes maker) (all_counts source shelf' image now.counts maker')
+  Counted status now = CountsOfRun true files false status (all_counts source shelf image notes maker) (all_counts source shelf' image now.counts maker')
 
   abbrev Blamed : Blame → Moment N → Type 0
   Blamed blame now = CountsBy blame (three_counts shelf maker notes) (three_counts shelf' maker' now.counts)

@@ -5,13 +5,14 @@ use Rattle.flux_base.specs.Blames.{Blame, OutsideCounts, is_image, is_notes, is_
 use Rattle.flux_base.specs.Blames.{the_source, the_image, the_notes}
 use Rattle.flux_base.specs.Counts.{Counts, FaultCounts}
 use Rattle.flux_base.specs.declared.status.Status.{Status}
-use Rattle.flux_base.specs.declared.status.Status.TheVariants.{ReadFault, ImageFault, NotesFault}
-use Rattle.flux_base.specs.declared.status.Status.TheVariants.{ShelfFault}
+use Rattle.flux_base.specs.declared.status.Status.TheVariants.{AllGood, NotAllGood, ReadFault}
+use Rattle.flux_base.specs.declared.status.Status.TheVariants.{ImageFault, NotesFault, ShelfFault}
 use Rattle.flux_help.specs.Verbs.{verb_of}
 use Rattle.flux_help.specs.declared.verb.Verb.{Verb}
-use Rattle.flux_help.specs.declared.verb.Verb.TheVariants.{Identify, Imd, Info, Read, Show, Write}
-use Rattle.flux_help.specs.declared.verb.Verb.TheVariants.{Split, Unpack}
+use Rattle.flux_help.specs.declared.verb.Verb.TheVariants.{Archive, Identify, Imd, Info, Read, Show}
+use Rattle.flux_help.specs.declared.verb.Verb.TheVariants.{Write, Split, Unpack}
 use Rattle.flux_words.specs.Asked.{Asked, some_dumps, a_sector, an_identity, told_files}
+use Rattle.flux_words.specs.Asked.{an_archive}
 use Rattle.flux_words.specs.Asked.{an_imd_file, written_files, split_streams, unpacked_file}
 use Rattle.flux_cli.specs.World.{World}
 
@@ -34,6 +35,7 @@ over_dumps (some_dumps asked) = true
 over_dumps (an_identity dump) = true
 over_dumps (told_files dump) = true
 over_dumps (an_imd_file asked) = true
+over_dumps (an_archive asked) = true
 over_dumps (a_sector asked) = true
 over_dumps (unpacked_file file folder) = true
 over_dumps _ = false
@@ -43,6 +45,7 @@ verb_over_dumps (Some Read) = true
 verb_over_dumps (Some Identify) = true
 verb_over_dumps (Some Info) = true
 verb_over_dumps (Some Imd) = true
+verb_over_dumps (Some Archive) = true
 verb_over_dumps (Some Show) = true
 verb_over_dumps (Some Unpack) = true
 verb_over_dumps _ = false
@@ -51,22 +54,30 @@ abbrev pub reads_dumps : (words : List (List ℕ)) → Bool
 reads_dumps [] = false
 reads_dumps (first ∷ others) = verb_over_dumps (verb_of first)
 
--- files are made for some of it, which the verb tells with what stands behind it: of the words of
--- `write` a format's stands alone where none are
-abbrev pub asks_files : Asked → Bool
-asks_files (written_files format folder) = true
-asks_files (split_streams folder heads) = true
-asks_files (unpacked_file file folder) = true
-asks_files _ = false
+-- what is made: nothing; files; or files of a disk whose dumps are read for them
+pub data Making : Type 0 where
+  nothing : Making
+  files : Making
+  files_of_dumps : Making
 
-abbrev pub verb_asks_files : Option Verb → (others : List (List ℕ)) → Bool
-verb_asks_files (Some Write) (option ∷ folder ∷ others) = true
-verb_asks_files (Some Split) others = true
-verb_asks_files (Some Unpack) others = true
-verb_asks_files _ _ = false
+-- files are made for some of what is asked, which the verb tells with what stands behind it: of the
+-- words of `write` a format's stands alone where none are
+abbrev pub asks_files : Asked → Making
+asks_files (written_files format folder) = files
+asks_files (split_streams folder heads) = files
+asks_files (unpacked_file file folder) = files
+asks_files (an_archive asked) = files_of_dumps
+asks_files _ = nothing
 
-abbrev pub makes_files : (words : List (List ℕ)) → Bool
-makes_files [] = false
+abbrev pub verb_asks_files : Option Verb → (others : List (List ℕ)) → Making
+verb_asks_files (Some Write) (option ∷ folder ∷ others) = files
+verb_asks_files (Some Split) others = files
+verb_asks_files (Some Unpack) others = files
+verb_asks_files (Some Archive) others = files_of_dumps
+verb_asks_files _ _ = nothing
+
+abbrev pub makes_files : (words : List (List ℕ)) → Making
+makes_files [] = nothing
 makes_files (first ∷ others) = verb_asks_files (verb_of first) others
 
 -- how often files failed under such words, by the status: where it tells so, or a
@@ -96,17 +107,42 @@ IsOfFiles ShelfFault the_notes = ⊥
 IsOfFiles ShelfFault blame = Unit {0}
 IsOfFiles _ blame = blame ≡ no_one
 
+-- how often files of dumps failed of which others were to be made: never, where a disk was kept
+-- whose status tells none
+abbrev pub FailsKept : Status → (often : ℕ) → Type 0
+FailsKept AllGood often = often ≡ 0
+FailsKept NotAllGood often = often ≡ 0
+FailsKept _ often = Unit {0}
+
+-- what makes files failed, or did not, where a fault of files is told
+abbrev pub IsUnmade : Status → (unmade : Bool) → Type 0
+IsUnmade ShelfFault unmade = Unit {0}
+IsUnmade _ unmade = unmade ≡ false
+
+-- the files of dumps failed so often, and what makes files did once or never
+pub record CountsOfKeeping (status : Status)
+    (shelf shelf' maker maker' : FaultCounts) : Type 0 where
+  pub often : ℕ
+  pub fails : FailsKept status often
+  pub many : CountsMany often shelf shelf'
+  pub unmade : Bool
+  pub is_unmade : IsUnmade status unmade
+  pub making : Counts unmade maker maker'
+
 -- It is what makes files that failed where some are asked for, and then the shelf was not called,
--- or one of both where a file is unpacked; else the shelf did so, and nothing was made.
-abbrev pub CountsOfFiles : (dumps makes : Bool) → Status
+-- or one of both where a file is unpacked; else the shelf did so, and nothing was made. Of a disk that
+-- is kept files of dumps may have failed, and what makes files too.
+abbrev pub CountsOfFiles : (dumps : Bool) → (makes : Making) → Status
     → (shelf shelf' maker maker' : FaultCounts) → Type 0
-CountsOfFiles dumps false status shelf shelf' maker maker' =
+CountsOfFiles dumps nothing status shelf shelf' maker maker' =
     CountsOfShelf dumps status shelf shelf' × Counts false maker maker'
-CountsOfFiles false true status shelf shelf' maker maker' =
+CountsOfFiles false files status shelf shelf' maker maker' =
     Counts false shelf shelf' × Counts (is_of_files status) maker maker'
-CountsOfFiles true true status shelf shelf' maker maker' =
+CountsOfFiles true files status shelf shelf' maker maker' =
     (blame : Blame) × IsOfFiles status blame × Counts (is_source blame) shelf shelf'
     × Counts (is_image blame) maker maker'
+CountsOfFiles dumps files_of_dumps status shelf shelf' maker maker' =
+    CountsOfKeeping status shelf shelf' maker maker'
 
 -- over the shelf, which stands in the source's place
 pub record CountsOnShelf (dumps : Bool) (status : Status)
@@ -132,9 +168,10 @@ world_counts now = all_counts now.source.counts now.shelf.counts now.image.count
     now.maker.counts
 
 -- a fault of what makes files is told in a line too
-abbrev pub tells_unmade : (makes : Bool) → Status → Bool
-tells_unmade false status = false
-tells_unmade true status = is_of_files status
+abbrev pub tells_unmade : (makes : Making) → Status → Bool
+tells_unmade nothing status = false
+tells_unmade files status = is_of_files status
+tells_unmade files_of_dumps status = is_of_files status
 
 -- The notes behind a fault that is told in a line beside the status: they failed in that line, or
 -- never. Else as the status says.
@@ -146,7 +183,7 @@ CountsOfNotes true fails before after = (cut : Bool) × Counts cut before after
 -- last call that could, and no other one did: so after a fault nothing more was called that could
 -- fail, and a run that finished had none. Where a fault of the output is told, or one of what makes
 -- files, the notes were called behind it, for one line alone, and may have failed once too.
-pub record CountsOfRun (dumps makes told : Bool) (status : Status)
+pub record CountsOfRun (dumps : Bool) (makes : Making) (told : Bool) (status : Status)
     (before after : AllCounts) : Type 0 where
   pub source : Counts (is_source (source_blame status)) before.source after.source
   pub files : CountsOfFiles dumps makes status before.shelf after.shelf before.maker after.maker

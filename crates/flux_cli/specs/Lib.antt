@@ -20,6 +20,7 @@ pub mod SectorRuns
 pub mod IdentityRuns
 pub mod InfoRuns
 pub mod ImdRuns
+pub mod ImdLaw
 pub mod Endings
 pub mod MakingWork
 pub mod FilesTold
@@ -28,6 +29,7 @@ pub mod FilesHeadline
 pub mod SplitWork
 pub mod SplitHeadline
 pub mod UnpackRuns
+pub mod ArchiveRuns
 pub mod ShelfRuns
 pub mod OutputTold
 pub mod ReadHeadline

@@ -4,17 +4,19 @@ use Rattle.std.specs.Prelude.{◌≡◌, ℕ, List, Option}
 use Rattle.flux_base.specs.declared.status.Status.{Status}
 use Rattle.flux_words.specs.Asked.{Asked}
 use Rattle.flux_words.specs.CommandWords.{AskFor}
+use Rattle.flux_cli.specs.ArchiveRuns.{Keeps}
 use Rattle.flux_cli.specs.BytesWork.{of_bytes}
 use Rattle.flux_cli.specs.FolderRuns.{DoesFolder}
 use Rattle.flux_cli.specs.MakingWork.{Makes}
 use Rattle.flux_cli.specs.Runs.{Does}
 use Rattle.flux_cli.specs.UnpackRuns.{Unpacks}
-use Rattle.flux_cli.specs.Works.{Row, row_for, with_bytes, with_files, with_folder, with_maker}
-use Rattle.flux_cli.specs.Works.{with_unpacking}
+use Rattle.flux_cli.specs.Works.{Row, row_for, with_bytes, with_files, with_folder, with_keeping}
+use Rattle.flux_cli.specs.Works.{with_maker, with_unpacking}
 use Rattle.flux_cli.specs.World.{World, on_shelf, on_source}
 
 -- The source is not touched where the shelf is read, and the shelf is not where the source may be.
--- What makes files is touched where some are asked for, and then the image is not.
+-- What makes files is touched where some are asked for, and then the image is not, save that it gets
+-- the summary of a disk that is kept.
 abbrev pub DoesRow : {S W N H M : Type 0} → Row → Status → (before after : World S W N H M) → Type 0
 DoesRow (with_bytes work) status before after =
     Does (of_bytes work) status (on_source before) (on_source after)
@@ -31,6 +33,8 @@ DoesRow (with_maker work) status before after =
 DoesRow (with_unpacking file folder) status before after =
     Unpacks file folder status before after
     × (after.source ≡ before.source) × (after.image ≡ before.image)
+DoesRow (with_keeping asked) status before after =
+    Keeps asked status before after × (after.source ≡ before.source)
 
 -- what a run with these words did
 pub record Ran {S W N H M : Type 0} (words : List (List ℕ)) (status : Status)

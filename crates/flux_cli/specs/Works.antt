@@ -9,12 +9,13 @@ use Rattle.flux_engine.specs.declared.plan.Plan.{Plan}
 use Rattle.sector_images.specs.declared.format.Format.{Format}
 use Rattle.flux_words.specs.Asked.{Asked, the_turns, some_streams, a_folder, some_dumps, a_sector}
 use Rattle.flux_words.specs.Asked.{an_identity, told_files, written_streams, a_trial, a_g64_file}
-use Rattle.flux_words.specs.Asked.{an_image_of_g64, an_imd_file, a_page}
+use Rattle.flux_words.specs.Asked.{an_archive, an_image_of_g64, an_imd_file, a_page}
 use Rattle.flux_words.specs.Asked.{written_files, split_streams, unpacked_file}
 use Rattle.flux_words.specs.CommandWords.{AskFor}
 use Rattle.flux_words.specs.declared.commands.Way.{Way}
 use Rattle.flux_words.specs.declared.commands.Way.TheVariants.{Once, Often, ByBothClocks}
-use Rattle.flux_cli.specs.AskedDisks.{asked_disk, shown_sector}
+use Rattle.disk_archive.specs.Finding.{Asked as Kept}
+use Rattle.flux_cli.specs.AskedDisks.{asked_disk, kept_disk, shown_sector}
 use Rattle.flux_cli.specs.BytesWork.{BytesWork}
 use Rattle.flux_cli.specs.IdentityRuns.{identity_work}
 use Rattle.flux_cli.specs.ImdRuns.{imd_work}
@@ -58,14 +59,15 @@ usage_work text = record {
 }
 
 -- What there is to do: with the bytes of the source, with the files of the shelf, with those of a
--- folder there; or, to make files, with the bytes of the source and what makes them, or with a file
--- of the shelf, which is unpacked.
+-- folder there; or, to make files, with the bytes of the source and what makes them, with a file of
+-- the shelf, which is unpacked, or with the files of dumps, of which all is kept.
 pub data Row : Type 1 where
   with_bytes : BytesWork → Row
   with_files : Work ShelfNow → Row
   with_folder : Format → (folder : List ℕ) → Row
   with_maker : MakingWork → Row
   with_unpacking : (file folder : List ℕ) → Row
+  with_keeping : Kept → Row
 
 -- by what plan streams are read
 abbrev pub plan_of : Way → Plan
@@ -89,6 +91,7 @@ row_of (written_streams format) = with_bytes (write_work format)
 row_of (written_files format folder) = with_maker (files_work format folder)
 row_of (split_streams folder heads) = with_maker (split_work folder heads)
 row_of (unpacked_file file folder) = with_unpacking file folder
+row_of (an_archive asked) = with_keeping (kept_disk asked)
 row_of (a_trial format seed) = with_bytes (trial_work format seed)
 row_of (a_g64_file disk) = with_bytes (to_g64_work (format_of disk))
 row_of (an_image_of_g64 disk) = with_bytes (from_g64_work (format_of disk))

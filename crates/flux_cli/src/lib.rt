@@ -2,6 +2,7 @@
 //! over the standard streams (`std_streams`).
 #![tactic(auto)]
 
+mod archive;
 mod empty;
 mod endings;
 mod files;
@@ -9,6 +10,7 @@ mod files_told;
 mod folder;
 mod identity;
 mod imd;
+mod imd_law;
 mod laws;
 mod output_told;
 mod planned;
@@ -19,6 +21,7 @@ mod task;
 mod turns;
 mod unpack;
 
+pub use imd_law::imd_outcomes_are_one;
 pub use laws::{
     identity_outcomes_are_one, info_outcomes_are_one, outcomes_are_one, read_outcomes_are_one,
     sector_outcomes_are_one,

@@ -28,7 +28,7 @@ use track_shelf::Shelf;
 
 /// Runs the program over its words, without the program's name. Bytes of images go to `image`, and lines
 /// that are about the work to `notes`; `maker` makes files. All memory is taken before the first read and the first
-/// write.
+/// write, save that of `archive`, which is taken before the first write: which disk it is is read before.
 pub fn run<S: Source, W: Sink, N: Sink, H: Shelf, M: FileMaker>(
     alloc: Global,
     words: &[Word],
@@ -125,6 +125,7 @@ fn run_words<S: Source, W: Sink, N: Sink, H: Shelf, M: FileMaker>(
             alloc, source, image, notes, shelf, maker,
         ),
         Some(Command::Info(dump)) => Info { dump }.run(alloc, source, image, notes, shelf, maker),
+        Some(Command::Archive(asked)) => asked.run(alloc, source, image, notes, shelf, maker),
         Some(Command::Imd(asked)) => asked.run(alloc, source, image, notes, shelf, maker),
         Some(Command::WriteFiles(format, folder)) => {
             WriteFiles { format, folder }.run(alloc, source, image, notes, shelf, maker)

@@ -4,7 +4,8 @@ use Rattle.flux_help.specs.WrongWords.{wrong_text}
 use Rattle.flux_base.specs.declared.status.Status.TheVariants.{NotesFault, ShelfFault, Usage}
 use Rattle.flux_base.specs.lemmas.Blaming.{CountsBy-notes}
 use Rattle.flux_engine.specs.lemmas.ReadLaws.{no_reads}
-use Rattle.flux_words.specs.Asked.{the_turns, some_streams, a_folder, some_dumps, a_sector, an_identity, told_files, an_imd_file, written_streams, written_files, split_streams, unpacked_file, a_trial, a_g64_file, an_image_of_g64, a_page}
+use Rattle.flux_words.specs.Asked.{the_turns, some_streams, a_folder, some_dumps, a_sector, an_identity, told_files, an_imd_file, an_archive, written_streams, written_files, split_streams, unpacked_file, a_trial, a_g64_file, an_image_of_g64, a_page}
+use Rattle.flux_words.specs.ArchiveWords.{asked_archive}
 use Rattle.flux_words.specs.DumpWords.{asked_dumps}
 use Rattle.flux_words.specs.ImdWords.{asked_imd}
 use Rattle.flux_words.specs.SectorWords.{asked_sector}
@@ -24,6 +25,9 @@ run-requires-in-Some-Dumps g c = asked_keeps c.args.words.now (some_dumps (asked
 
 pub run-requires-in-Some-Imd : goal.run-requires-in-Some-Imd
 run-requires-in-Some-Imd g c = asked_keeps c.args.words.now (an_imd_file (asked_imd c.in-Some-Imd.asked)) (rw c.in-Some-Imd.field-0-is at c.in-Some-Imd.ensures)
+
+pub run-requires-in-Some-Archive : goal.run-requires-in-Some-Archive
+run-requires-in-Some-Archive g c = asked_keeps c.args.words.now (an_archive (asked_archive c.in-Some-Archive.asked)) (rw c.in-Some-Archive.field-0-is at c.in-Some-Archive.ensures)
 
 pub run-requires-in-Some-Sector : goal.run-requires-in-Some-Sector
 run-requires-in-Some-Sector g c = asked_keeps c.args.words.now (a_sector (asked_sector c.in-Some-Sector.asked)) (rw c.in-Some-Sector.field-0-is at c.in-Some-Sector.ensures)
@@ -140,6 +144,12 @@ returns-in-Some-Imd-clause-ran g c = record { asked = Some (an_imd_file (asked_i
 
 pub returns-in-Some-Imd-clause-counts : goal.returns-in-Some-Imd-clause-counts
 returns-in-Some-Imd-clause-counts g c = counts-asked c.args.words.now (an_imd_file (asked_imd c.in-Some-Imd.asked)) (rw c.in-Some-Imd.field-0-is at c.in-Some-Imd.ensures) c.run-in-Some-Imd.ensures.counts
+
+pub returns-in-Some-Archive-clause-ran : goal.returns-in-Some-Archive-clause-ran
+returns-in-Some-Archive-clause-ran g c = record { asked = Some (an_archive (asked_archive c.in-Some-Archive.asked)); asks = (rw c.in-Some-Archive.field-0-is at c.in-Some-Archive.ensures); did = c.run-in-Some-Archive.ensures.did }
+
+pub returns-in-Some-Archive-clause-counts : goal.returns-in-Some-Archive-clause-counts
+returns-in-Some-Archive-clause-counts g c = counts-asked c.args.words.now (an_archive (asked_archive c.in-Some-Archive.asked)) (rw c.in-Some-Archive.field-0-is at c.in-Some-Archive.ensures) c.run-in-Some-Archive.ensures.counts
 
 pub returns-in-Some-Write-clause-ran : goal.returns-in-Some-Write-clause-ran
 returns-in-Some-Write-clause-ran g c = record { asked = Some (written_streams c.in-Some-Write.format); asks = (rw c.in-Some-Write.field-0-is at c.in-Some-Write.ensures); did = c.run-in-Some-Write.ensures.did }

@@ -4,6 +4,7 @@ use Rattle.flux_cli.proofs.Blaming.{CountsBy-noteless, memoryless}
 use Rattle.flux_cli.proofs.Making.{making-counts, of-names, split-blame}
 use Rattle.flux_cli.specs.SplitWork.{split_ending, split_of}
 use Rattle.flux_cli.specs.World.{source_input}
+use Rattle.flux_cli.specs.Blamed.{files}
 use Rattle.flux_cli.proofs.files.SplitTask.run.Goals as goal
 
 pub end_of_split-requires : goal.end_of_split-requires
@@ -34,4 +35,4 @@ returns-in-Ok-clause-counts g c =
     (split-blame c.args.self.now.heads answer.result (CountsBy-noteless _ _ answer.ensures.blames)) c.end_of_split.ensures
 
 pub returns-in-Err-clause-counts : goal.returns-in-Err-clause-counts
-returns-in-Err-clause-counts g c = memoryless false true _ _ _ _ _
+returns-in-Err-clause-counts g c = memoryless false files _ _ _ _ _

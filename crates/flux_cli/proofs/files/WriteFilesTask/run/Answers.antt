@@ -2,6 +2,7 @@ use Rattle.std.proofs.Common.{false, true, inl, inr, refl}
 use Rattle.flux_cli.proofs.Blaming.{CountsBy-noteless, memoryless}
 use Rattle.flux_cli.proofs.Making.{files-blame, making-counts, of-tracks}
 use Rattle.flux_cli.specs.FilesWork.{files_ending, files_of}
+use Rattle.flux_cli.specs.Blamed.{files}
 use Rattle.flux_cli.proofs.files.WriteFilesTask.run.Goals as goal
 
 pub end_of_files-requires : goal.end_of_files-requires
@@ -34,4 +35,4 @@ returns-in-Ok-clause-counts g c =
     (files-blame c.args.self.now.format answer.result (CountsBy-noteless _ _ answer.ensures.blames)) c.end_of_files.ensures
 
 pub returns-in-Err-clause-counts : goal.returns-in-Err-clause-counts
-returns-in-Err-clause-counts g c = memoryless false true _ _ _ _ _
+returns-in-Err-clause-counts g c = memoryless false files _ _ _ _ _

@@ -1,5 +1,6 @@
 use Rattle.std.proofs.Common.{false, inl, inr, refl}
 use Rattle.flux_cli.proofs.Blaming.{memoryless, run-of-shelf}
+use Rattle.flux_cli.specs.Blamed.{nothing}
 use Rattle.flux_cli.proofs.shelf_task.DecodeFolderTask.run.Goals as goal
 
 pub returns-in-Ok-clause-did : goal.returns-in-Ok-clause-did
@@ -14,4 +15,4 @@ returns-in-Ok-clause-counts g c =
     (record { shelf = c.decode_folder.ensures.blames.source; image = c.decode_folder.ensures.blames.image; notes = c.decode_folder.ensures.blames.notes })
 
 pub returns-in-Err-clause-counts : goal.returns-in-Err-clause-counts
-returns-in-Err-clause-counts g c = memoryless false false _ _ _ _ _
+returns-in-Err-clause-counts g c = memoryless false nothing _ _ _ _ _

@@ -5,6 +5,7 @@ use Rattle.flux_cli.specs.AskedDisks.{asked_disk}
 use Rattle.flux_cli.proofs.ReadRun.{in_room}
 use Rattle.dump_reading.specs.lemmas.Coming.{none-failed}
 use Rattle.flux_cli.proofs.Blaming.{memoryless, run-of-shelf}
+use Rattle.flux_cli.specs.Blamed.{nothing}
 use Rattle.flux_cli.proofs.shelf_task.DumpsAskedTask.run.Goals as goal
 
 pub returns-in-Ok-clause-did : goal.returns-in-Ok-clause-did
@@ -22,4 +23,4 @@ pub returns-in-Err-clause-did : goal.returns-in-Err-clause-did
 returns-in-Err-clause-did g c = (record { answer = tt; says = refl; keeps = ([], none-failed _) }, refl, refl)
 
 pub returns-in-Err-clause-counts : goal.returns-in-Err-clause-counts
-returns-in-Err-clause-counts g c = memoryless true false _ _ _ _ _
+returns-in-Err-clause-counts g c = memoryless true nothing _ _ _ _ _

@@ -6,6 +6,7 @@ use Rattle.flux_cli.proofs.ShelfEnded.{ends-over, shelf-ended}
 use Rattle.flux_cli.specs.InfoRuns.{info_status, info_work}
 use Rattle.dump_reading.specs.lemmas.Coming.{none-failed}
 use Rattle.flux_cli.specs.ShelfWork.{ends_over_shelf}
+use Rattle.flux_cli.specs.Blamed.{nothing}
 use Rattle.flux_cli.proofs.shelf_task.InfoTask.run.Goals as goal
 
 pub returns-in-Ok-clause-did : goal.returns-in-Ok-clause-did
@@ -36,4 +37,4 @@ pub returns-in-Err-clause-did : goal.returns-in-Err-clause-did
 returns-in-Err-clause-did g c = (record { answer = tt; says = refl; keeps = ([], none-failed _) }, refl, refl)
 
 pub returns-in-Err-clause-counts : goal.returns-in-Err-clause-counts
-returns-in-Err-clause-counts g c = memoryless true false _ _ _ _ _
+returns-in-Err-clause-counts g c = memoryless true nothing _ _ _ _ _

@@ -2,6 +2,7 @@ use Rattle.std.proofs.Common.{◌≤◌, false, refl, sym, subst}
 use Rattle.flux_engine.specs.declared.plan.Plan.{Plan}
 use Rattle.flux_cli.proofs.Blaming.{no-shelf, run-of-source}
 use Rattle.flux_cli.proofs.Headlines.{way_asked}
+use Rattle.flux_cli.specs.Blamed.{nothing}
 use Rattle.flux_cli.proofs.task.StreamsAskedTask.run.Goals as goal
 
 pub decode_by_plan-requires-clause-some : goal.decode_by_plan-requires-clause-some
@@ -14,4 +15,4 @@ pub returns-clause-did : goal.returns-clause-did
 returns-clause-did g c = (rw c.plan_of-plan.ensures at c.decode_by_plan.ensures.does, refl, refl)
 
 pub returns-clause-counts : goal.returns-clause-counts
-returns-clause-counts g c = run-of-source false false c.decode_by_plan.result (no-shelf c.decode_by_plan.ensures.does (λ never. never)) c.decode_by_plan.ensures.blames
+returns-clause-counts g c = run-of-source false nothing c.decode_by_plan.result (no-shelf c.decode_by_plan.ensures.does (λ never. never)) c.decode_by_plan.ensures.blames

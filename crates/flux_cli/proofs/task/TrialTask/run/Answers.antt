@@ -4,6 +4,7 @@ use Rattle.flux_cli.proofs.Ended.{trial-ended}
 use Rattle.flux_cli.proofs.EndingLaws.{written-blame}
 use Rattle.flux_cli.proofs.Runs.{out_of_memory}
 use Rattle.flux_cli.specs.TrialWork.{trial_work}
+use Rattle.flux_cli.specs.Blamed.{nothing}
 use Rattle.flux_cli.proofs.task.TrialTask.run.Goals as goal
 
 pub returns-in-Ok-clause-did : goal.returns-in-Ok-clause-did
@@ -20,8 +21,8 @@ returns-in-Err-clause-did g c = (out_of_memory (trial_work c.args.self.now.forma
 
 pub returns-in-Ok-clause-counts : goal.returns-in-Ok-clause-counts
 returns-in-Ok-clause-counts g c =
-    run-of-source false false c.end_of_writing.result (no-shelf (returns-in-Ok-clause-did g c).0 (λ never. never))
+    run-of-source false nothing c.end_of_writing.result (no-shelf (returns-in-Ok-clause-did g c).0 (λ never. never))
     (rw c.end_of_writing.ensures (written-blame c.run_trial.result c.run_trial.ensures.2.counts))
 
 pub returns-in-Err-clause-counts : goal.returns-in-Err-clause-counts
-returns-in-Err-clause-counts g c = memoryless false false _ _ _ _ _
+returns-in-Err-clause-counts g c = memoryless false nothing _ _ _ _ _

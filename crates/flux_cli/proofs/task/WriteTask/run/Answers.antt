@@ -7,6 +7,7 @@ use Rattle.flux_cli.proofs.ImagesRun.{image-reads}
 use Rattle.flux_cli.proofs.Runs.{out_of_memory}
 use Rattle.flux_cli.specs.Blamed.{source_blame}
 use Rattle.flux_cli.specs.ImagesWork.{write_work}
+use Rattle.flux_cli.specs.Blamed.{nothing}
 use Rattle.flux_cli.proofs.task.WriteTask.run.Goals as goal
 
 pub returns-in-Ok-clause-did : goal.returns-in-Ok-clause-did
@@ -24,8 +25,8 @@ returns-in-Err-clause-did g c = (out_of_memory (write_work c.args.self.now.forma
 
 pub returns-in-Ok-clause-counts : goal.returns-in-Ok-clause-counts
 returns-in-Ok-clause-counts g c =
-    run-of-source false false c.end_of_image.result (no-shelf (returns-in-Ok-clause-did g c).0 (λ never. never))
+    run-of-source false nothing c.end_of_image.result (no-shelf (returns-in-Ok-clause-did g c).0 (λ never. never))
     (ends-blame source_blame refl refl _ c.end_of_image.result _ _ (image-blame c.write_disk.result (CountsBy-noteless _ _ c.write_disk.ensures.blames)) c.end_of_image.ensures)
 
 pub returns-in-Err-clause-counts : goal.returns-in-Err-clause-counts
-returns-in-Err-clause-counts g c = memoryless false false _ _ _ _ _
+returns-in-Err-clause-counts g c = memoryless false nothing _ _ _ _ _

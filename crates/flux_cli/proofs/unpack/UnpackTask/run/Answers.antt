@@ -1,6 +1,7 @@
 use Rattle.std.proofs.Common.{true, inl, inr, refl}
 use Rattle.flux_cli.proofs.Blaming.{memoryless}
 use Rattle.flux_cli.proofs.Unpacking.{of-table, unpacking-counts}
+use Rattle.flux_cli.specs.Blamed.{files}
 use Rattle.flux_cli.proofs.unpack.UnpackTask.run.Goals as goal
 
 pub end_of_unpacking-requires : goal.end_of_unpacking-requires
@@ -28,4 +29,4 @@ returns-in-Ok-clause-counts g c =
     unpacking-counts _ _ _ _ _ _ _ c.unpack-answer.result c.end_of_unpacking.result _ _ c.unpack-answer.ensures.blames c.end_of_unpacking.ensures
 
 pub returns-in-Err-clause-counts : goal.returns-in-Err-clause-counts
-returns-in-Err-clause-counts g c = memoryless true true _ _ _ _ _
+returns-in-Err-clause-counts g c = memoryless true files _ _ _ _ _
