@@ -3,6 +3,7 @@ import struct
 
 import plain
 import plain_commands
+from case_archive import case_archive
 from case_dumps import case_folder, case_identify, case_info, case_numbers, case_others, case_read, case_show, few
 from case_files import case_split, case_write_files
 from case_imd import case_imd
@@ -260,6 +261,7 @@ TABLE = [
     ("images as files", 60, case_write_files, plain_commands.WRITE_FOLDER),
     ("streams to be cut apart", 150, case_split, b"split"),
     ("SCP files", 100, case_unpack, b"unpack"),
+    ("dumps of which all is kept", 60, case_archive, b"archive"),
     ("trials", 8, case_trial, b"trial"),
 ]
 

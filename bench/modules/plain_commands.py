@@ -5,6 +5,7 @@
 import re
 from collections import Counter
 
+import plain_archive
 import plain_dumps
 import plain_identity
 import plain_imd
@@ -176,7 +177,7 @@ def track_named(form, word):
 # word in its place is told by itself.
 OWN_USAGES = {
     b"read": b"usage: flux read [--picture] [--double-step] FORMAT DUMP...", b"identify": b"usage: flux identify DUMP",
-    b"info": b"usage: flux info DUMP", b"imd": b"usage: flux imd [--double-step] DUMP...",
+    b"archive": b"usage: flux archive [--format FORMAT [--double-step]] FOLDER DUMP...", b"info": b"usage: flux info DUMP", b"imd": b"usage: flux imd [--double-step] DUMP...",
     b"show": b"usage: flux show [--double-step] [--copy N] FORMAT TRACK SECTOR DUMP...",
     b"rescue": b"usage: flux rescue FORMAT", b"map": b"usage: flux map FORMAT", b"split": b"usage: flux split FOLDER HEADS", b"unpack": b"usage: flux unpack DISK.scp FOLDER",
 }
@@ -221,9 +222,11 @@ def wrong_words(words, built, usage):
 
 def files_asked(words, built):
     """What words ask for that make files, if they do, of what lies outside. A folder whose name is that of a track's file would be read as one."""
-    if words[:1] == [b"unpack"] and b"unpack" in built and len(words) == 3 and all(words) and not plain_dumps.names_file(words[2]):
+    if words[:1] == [b"unpack"] and b"unpack" in built and len(words) == 3 and all(words) and not plain_dumps.is_of_a_dump(words[2]):
         return lambda outside: unpack(words[1], words[2], outside)
-    if len(words) < 3 or not words[-2] or plain_dumps.names_file(words[-2]):
+    if b"archive" in built and (kept := plain_archive.asked(words)):
+        return lambda outside: plain_archive.archive(kept, outside, BY_NUMBERS in built, OF_HEADS in built)
+    if len(words) < 3 or not words[-2] or plain_dumps.is_of_a_dump(words[-2]):
         return None
     form = FORMATS.get(words[-1].decode())
     if words[:-2] == WRITE_FOLDER.split() and WRITE_FOLDER in built and form:

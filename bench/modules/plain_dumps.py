@@ -101,6 +101,11 @@ def names_scp(path):
     return re.fullmatch(rb".+\.scp", path, re.DOTALL | re.IGNORECASE) is not None
 
 
+def is_of_a_dump(path):
+    """It ends as a dump's file does, so that no folder to make has this name."""
+    return names_file(path) or names_scp(path)
+
+
 def path_of(dump, cylinder, head):
     """The file of a track: in a folder, beside the file by which the dump is named, or an SCP file of all tracks."""
     if names_scp(dump):

@@ -74,7 +74,7 @@ PROBES = {b"decode": [b"ibm-3740"], b"report": [b"ibm-3740"], b"write": [b"ibm-3
 
 # The same of words that the usage line does not name.
 MORE_PROBES = {b"rescue": [b"apple-do"], b"map": [b"apple-do"], b"read": [b"apple-do", b"/nowhere"], b"identify": [b"/nowhere"], b"info": [b"/nowhere"],
-               b"imd": [b"/nowhere"],
+               b"imd": [b"/nowhere"], b"archive": [b"/nowhere/kept", b"/nowhere/dump"],
                b"show": [b"apple-do", b"00.0", b"00", b"/nowhere"],
                plain_commands.WRITE_FOLDER: [b"/nowhere/dump", b"apple-do"], b"split": [b"/nowhere/dump", b"1"],
                b"unpack": [b"/nowhere/disk.scp", b"/nowhere/dump"]}
