@@ -31,3 +31,4 @@ pub mod FilesHeadline
 pub mod SplitHeadline
 pub mod Unpacking
 pub mod Archiving
+pub mod NotedRun

@@ -33,6 +33,7 @@ use Rattle.flux_cli.specs.World.{InputMoment, World, as_source, on_shelf, on_sou
 use Rattle.flux_cli.specs.AskedDisks.{Keeps, asked_disk}
 use Rattle.flux_cli.specs.Headlines.{OfFile, OfShown, OfTrial}
 use Rattle.flux_cli.specs.ReadHeadline.{OfRead}
+use Rattle.flux_cli.specs.NotedWork.{OfNoted, noted_cut, noted_work}
 use Rattle.flux_cli.specs.Work.{Growth, Outcome, Work}
 use Rattle.flux_cli.specs.ShelfWork.{ends_over_shelf}
 use Rattle.flux_cli.specs.G64Work.{from_g64_work}
@@ -79,6 +80,19 @@ cut_by_sinks shown disk start now ReadFault image notes cut = tt
 cut_by_sinks shown disk start now ImageFault image notes cut = tt
 cut_by_sinks shown disk start now NotesFault image notes cut = tt
 cut_by_sinks shown disk start now Memory image notes cut = tt
+
+-- nor is it behind the notes of the dumps
+cut_noted : (shown : Shown) (disk : DumpDisk) (start now : ShelfNow) (status : Status) (image notes : Growth)
+    → noted_cut disk.dumps (dumps_cut shown disk) status start now image notes → by_sinks status
+cut_noted shown disk start now ShelfFault image notes cut = cut_by_sinks shown disk cut.mid now ShelfFault image (record { before = cut.between; after = notes.after }) cut.cut
+cut_noted shown disk start now AllGood image notes cut = tt
+cut_noted shown disk start now NotAllGood image notes cut = tt
+cut_noted shown disk start now Refused image notes cut = tt
+cut_noted shown disk start now Usage image notes cut = tt
+cut_noted shown disk start now ReadFault image notes cut = tt
+cut_noted shown disk start now ImageFault image notes cut = tt
+cut_noted shown disk start now NotesFault image notes cut = tt
+cut_noted shown disk start now Memory image notes cut = tt
 
 -- and where it was known of the bytes that the source tells
 pub known-bytes : {S W N : Type 0} (work : BytesWork) (Known : List ℕ → Outcome → Type 0) → ((x : List ℕ) (o : Outcome) → work.gives x o → Known x o)
@@ -183,9 +197,17 @@ module _ (laws : Laws) (dump_laws : DumpLaws) {S W N H M : Type 0} (status : Sta
       (λ x o gives. of_shown laws x o (plan_of asked.way) asked.output asked.format (way_asked asked.way keeps) gives) (on_source before) (on_source after) status did.0
   expected (a_folder format folder) keeps did = folder-known laws format folder (on_shelf before) (on_shelf after) status did.0
   expected (some_dumps asked) keeps did =
-      known-of (read_work asked.shown (asked_disk asked)) by_sinks (OfRead asked.shown (asked_disk asked)) (on_shelf before) (on_shelf after)
-      (of_read dump_laws asked.shown (asked_disk asked) (omega (arith, keeps.most)) before.shelf.seen after.shelf.seen)
-      (λ fault image notes ends cut. cut_by_sinks asked.shown (asked_disk asked) before.shelf.seen after.shelf.seen fault image notes cut) status did.0
+      let disk = asked_disk asked in
+      known-of (noted_work disk.dumps (read_work asked.shown disk)) by_sinks (OfNoted disk.dumps (OfRead asked.shown disk)) (on_shelf before) (on_shelf after)
+      (λ o is. record {
+        mid = is.mid;
+        noted = is.noted;
+        noted_are = is.noted_are;
+        own = is.own;
+        gives = of_read dump_laws asked.shown disk (omega (arith, keeps.most)) is.mid after.shelf.seen is.own is.gives;
+        is = is.is;
+      })
+      (λ fault image notes ends cut. cut_noted asked.shown disk before.shelf.seen after.shelf.seen fault image notes cut) status did.0
   expected (an_image_of_g64 disk) keeps did =
       known-bytes (from_g64_work (format_of disk)) (OfFile (format_of disk)) (λ x o gives. of_g64 laws x o disk gives.0 gives.1 gives.2) (on_source before) (on_source after) status did.0
   expected (a_trial format seed) keeps did =

@@ -18,7 +18,6 @@ use Rattle.flux_engine.specs.LoopProgress.{lost_count}
 use Rattle.flux_engine.specs.Plans.{PartOf, Seen}
 use Rattle.flux_engine.specs.Tracks.{TrackPart}
 use Rattle.law_read_dumps.specs.Said.{AllOfDumpsIsOne}
-use Rattle.sector_images.specs.declared.format.Format.{Format}
 use Rattle.track_shelf.specs.Files.{File}
 use Rattle.track_shelf.specs.Told.{with_failed}
 use Rattle.flux_cli.proofs.EndingLaws.{AnswersOften, IsDone, done-if}
@@ -28,15 +27,8 @@ use Rattle.flux_cli.specs.Blamed.{FailsOften}
 use Rattle.flux_cli.specs.ReadRuns.{AreFailedAlike, FailedAsRead, IsOutcomeOfDumps, IsShown, came_shown, read_outcome, read_status, read_work}
 use Rattle.flux_cli.specs.ShelfWork.{empty_outcome}
 use Rattle.flux_cli.specs.Work.{Got, Growth, Outcome}
-use Rattle.flux_cli.specs.World.{Outside}
 use Rattle.flux_words.specs.declared.options.Shown.{Shown}
 use Rattle.flux_words.specs.declared.options.Shown.TheVariants.{Image, Picture}
-use Rattle.flux_cli.specs.Runs.{Does}
-
--- what was done in a room that was made for the disk's format
-pub in_room : {H W N : Type 0} (shown : Shown) (disk : DumpDisk) (before after : Outside H ShelfNow W N) (held : Format) (status : Status) → held ≡ disk.format
-    → Does (read_work shown (record disk { format = held })) status before after → Does (read_work shown disk) status before after
-in_room shown disk before after held status same did = subst (λ (f : Format). Does (read_work shown (record disk { format = f })) status before after) same did
 
 -- whether files failed, and whether the image is all that can be read there
 pub read-done : (totals : DumpTotals) → IsDone (read_status totals)

@@ -15,6 +15,7 @@ pub mod Blamed
 pub mod FolderRuns
 pub mod EmptyText
 pub mod ShelfWork
+pub mod NotedWork
 pub mod ReadRuns
 pub mod SectorRuns
 pub mod IdentityRuns

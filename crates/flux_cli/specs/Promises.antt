@@ -17,6 +17,7 @@ use Rattle.flux_cli.specs.FilesHeadline.{OfWritten}
 use Rattle.flux_cli.specs.FilesWork.{files_of}
 use Rattle.flux_cli.specs.G64Work.{from_g64_work}
 use Rattle.flux_cli.specs.Headlines.{OfFile, OfShown, OfStreams, OfTrial}
+use Rattle.flux_cli.specs.NotedWork.{OfNoted}
 use Rattle.flux_cli.specs.PlanWork.{planned_work}
 use Rattle.flux_cli.specs.ReadHeadline.{OfRead}
 use Rattle.flux_cli.specs.Runs.{Does}
@@ -75,16 +76,17 @@ Expected (some_streams asked) status before after =
 Expected (a_folder format folder) status before after =
     Does (known ends_over_shelf ends_over_shelf (OfFolder format folder)) status
     (on_shelf before) (on_shelf after)
--- Of `read`: each sector's line and its bytes are those that all readings of the dumps bear out,
--- and each line that has the text of a sector's line, or of a stream's that is passed over, is that
--- one. All is good exactly where each sector is and no file that was looked at has, at any place, a
--- header with a right check value that names none of its track's sectors and whole data behind it.
--- A sector that is good by the strict rule in one dump is good with the same bytes or
--- contradictory, and so is one that a dump has whole, with its own bytes; it is good where the
--- other files are captures too or passed over and the drives kept their speed. A picture of them is
--- that of such a report.
+-- Of `read`, behind what is noted of dumps that are SCP files: each sector's line and its bytes are
+-- those that all readings of the dumps bear out, and each line that has the text of a sector's
+-- line, or of a stream's that is passed over, is that one. All is good exactly where each sector is
+-- and no file that was looked at has, at any place, a header with a right check value that names
+-- none of its track's sectors and whole data behind it, and none failed as it was noted. A sector
+-- that is good by the strict rule in one dump is good with the same bytes or contradictory, and so
+-- is one that a dump has whole, with its own bytes; it is good where the other files are captures
+-- too or passed over and the drives kept their speed. A picture of them is that of such a report.
 Expected (some_dumps asked) status before after =
-    Does (known ends_over_shelf by_sinks (OfRead asked.shown (asked_disk asked))) status
+    Does (known ends_over_shelf by_sinks
+    (OfNoted (asked_disk asked).dumps (OfRead asked.shown (asked_disk asked)))) status
     (on_shelf before) (on_shelf after)
 -- A file that was written of an image comes back by `from-g64`.
 Expected (an_image_of_g64 disk) status before after =

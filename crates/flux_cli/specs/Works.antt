@@ -1,5 +1,5 @@
 -- What there is to do for the words: a row for each command, and one for words that are none.
-use Rattle.std.specs.Prelude.{◌≡◌, ℕ, List, [], Option, Some, None}
+use Rattle.std.specs.Prelude.{◌≡◌, ℕ, List, [], ◌∷◌, Option, Some, None}
 use Rattle.dump_reading.specs.Files.{ShelfNow}
 use Rattle.flux_base.specs.declared.status.Status.{Status}
 use Rattle.flux_base.specs.declared.status.Status.TheVariants.{Usage, NotesFault}
@@ -27,6 +27,7 @@ use Rattle.flux_cli.specs.FilesWork.{files_work}
 use Rattle.flux_cli.specs.G64Work.{from_g64_work, to_g64_work}
 use Rattle.flux_cli.specs.ImagesWork.{write_work}
 use Rattle.flux_cli.specs.MakingWork.{MakingWork}
+use Rattle.flux_cli.specs.NotedWork.{noted_work}
 use Rattle.flux_cli.specs.PlanWork.{planned_work}
 use Rattle.flux_cli.specs.PagesWork.{page_work}
 use Rattle.flux_cli.specs.SplitWork.{split_work}
@@ -81,12 +82,14 @@ row_of the_turns = with_bytes turns_work
 row_of (some_streams asked) =
     with_bytes (planned_work (plan_of asked.way) asked.output asked.format)
 row_of (a_folder format folder) = with_folder format folder
-row_of (some_dumps asked) = with_files (read_work asked.shown (asked_disk asked))
+row_of (some_dumps asked) =
+    with_files (noted_work (asked_disk asked).dumps (read_work asked.shown (asked_disk asked)))
 row_of (a_sector asked) = with_files (sector_work (shown_sector asked))
 row_of (an_identity dump) = with_files (identity_work dump)
-row_of (told_files dump) = with_files (info_work dump)
+row_of (told_files dump) = with_files (noted_work (dump ∷ []) (info_work dump))
 row_of (an_imd_file asked) =
-    with_files (imd_work (record { stepping = asked.stepping; names = asked.dumps }))
+    with_files (noted_work asked.dumps
+    (imd_work (record { stepping = asked.stepping; names = asked.dumps })))
 row_of (written_streams format) = with_bytes (write_work format)
 row_of (written_files format folder) = with_maker (files_work format folder)
 row_of (split_streams folder heads) = with_maker (split_work folder heads)

@@ -8,6 +8,7 @@ ghost use Rattle.flux_words.specs.Asked.{an_imd_file};
 ghost use Rattle.flux_words.specs.ImdWords.{asked_imd};
 
 use crate::endings::end_of_fault;
+use crate::noted::noted_status;
 use crate::task::Task;
 use dump_reading::{Dumps, NoFiles};
 use file_maker::FileMaker;
@@ -15,6 +16,7 @@ use flux_base::{Memory, Sink, Source, Status, Word};
 use flux_engine::Stopped;
 use flux_words::ImdAsked;
 use imd_image::{ImdRoom, ImdTotals, write_imd};
+use scp_notes::note_dumps;
 use std::alloc::Global;
 use track_shelf::{Shelf, Stepping};
 
@@ -37,10 +39,14 @@ impl<S: Source, W: Sink, N: Sink, H: Shelf, M: FileMaker> Task<S, W, N, H, M> fo
             stepping: self.stepping,
         };
         match ImdRoom::reserve(alloc) {
-            Ok(room) => {
-                let answer = write_imd(&dumps, room, shelf, image, notes);
-                end_of_imd(self.stepping, answer, dumps.names, shelf, notes)
-            }
+            Ok(room) => match note_dumps(self.dumps, shelf, notes) {
+                Ok(failed) => {
+                    let answer = write_imd(&dumps, room, shelf, image, notes);
+                    let status = end_of_imd(self.stepping, answer, dumps.names, shelf, notes);
+                    noted_status(failed, status)
+                }
+                Err(_) => Status::NotesFault,
+            },
             Err(Memory) => Status::Memory,
         }
     }

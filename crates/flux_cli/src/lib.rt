@@ -12,6 +12,7 @@ mod identity;
 mod imd;
 mod imd_law;
 mod laws;
+mod noted;
 mod output_told;
 mod planned;
 mod program;

@@ -6,7 +6,8 @@ ghost use Rattle.flux_words.specs.SectorWords.{asked_sector};
 
 use crate::endings::{end_of_identity, end_of_info, end_of_sector};
 use crate::folder::decode_folder;
-use crate::read::show;
+use crate::noted::noted_status;
+use crate::read::note_and_show;
 use crate::task::Task;
 use dump_identity::{IdentityRoom, identify};
 use dump_reading::Dumps;
@@ -15,6 +16,7 @@ use file_maker::FileMaker;
 use flux_base::{Memory, Sink, Source, Status, Word};
 use flux_engine::DiskRoom;
 use flux_words::{DumpsAsked, ShowAsked};
+use scp_notes::note_dumps;
 use sector_copies::{SectorRoom, show_sector};
 use sector_images::Format;
 use std::alloc::Global;
@@ -72,7 +74,7 @@ impl<S: Source, W: Sink, N: Sink, H: Shelf, M: FileMaker> Task<S, W, N, H, M> fo
             stepping: self.stepping,
         };
         match DiskRoom::reserve(alloc, self.format) {
-            Ok(mut room) => show(self.shown, &dumps, &mut room, shelf, image, notes),
+            Ok(mut room) => note_and_show(self.shown, &dumps, &mut room, shelf, image, notes),
             Err(Memory) => Status::Memory,
         }
     }
@@ -126,10 +128,14 @@ impl<S: Source, W: Sink, N: Sink, H: Shelf, M: FileMaker> Task<S, W, N, H, M> fo
         _maker: &mut M,
     ) -> Status {
         match TurnsRoom::reserve(alloc) {
-            Ok(room) => {
-                let answer = tell_turns(self.dump, room, shelf, image);
-                end_of_info(answer, from_ref(self.dump), shelf, notes)
-            }
+            Ok(room) => match note_dumps(from_ref(self.dump), shelf, notes) {
+                Ok(failed) => {
+                    let answer = tell_turns(self.dump, room, shelf, image);
+                    let status = end_of_info(answer, from_ref(self.dump), shelf, notes);
+                    noted_status(failed, status)
+                }
+                Err(_) => Status::NotesFault,
+            },
             Err(Memory) => Status::Memory,
         }
     }

@@ -1,22 +1,25 @@
 //! An SCP file that is unpacked.
 
 ghost use Rattle.std.specs.Prelude.{◌≡◌, ◌≤◌, length};
+ghost use Rattle.flux_base.specs.Moments.{Puts};
 ghost use Rattle.flux_base.specs.World.{sink_at};
 ghost use Rattle.flux_words.specs.Asked.{unpacked_file};
-ghost use Rattle.flux_cli.specs.UnpackRuns.{AreOfTable, EndsUnpacking, unpack_status};
+ghost use Rattle.flux_cli.specs.UnpackRuns.{AreOfTable, CountsOfUnpacking, EndsUnpacking, UnpacksIn, sums_told, unpack_at};
+ghost use Rattle.flux_cli.specs.UnpackRuns.{unpack_status};
 
 use crate::endings::{refuse, tell_unmade};
 use crate::files_told::{exists_line, failed_line, folder_line};
 use crate::task::Task;
 use file_maker::FileMaker;
-use flux_base::{Memory, Sink, Source, Status, Word};
+use flux_base::{Failed, Memory, Sink, Source, Status, Word};
+use scp_notes::{Sums, find_sums, sums_line};
 use scp_unpack::{UnpackFault, UnpackRoom, Unpacked, refused_scp_line, track_of, unpack};
-use sector_report::{Line, put};
+use sector_report::{Line, put, write_line};
 use std::alloc::Global;
 use track_shelf::Shelf;
 
-/// Makes a file of each track of an SCP file in a folder. Notes tell of tracks that are refused or end early, and how
-/// many files were made; or why none was.
+/// Makes a file of each track of an SCP file in a folder. Notes tell that the file's sum is not the one that it names,
+/// which tracks are refused or end early, and how many files were made; or why none was.
 #[derive(Clone, Copy)]
 pub(crate) struct Unpack<'a> {
     pub(crate) file: &'a Word,
@@ -39,11 +42,49 @@ impl<S: Source, W: Sink, N: Sink, H: Shelf, M: FileMaker> Task<S, W, N, H, M> fo
             Ok(mut room) => {
                 let file = self.file.bytes();
                 let folder = self.folder.bytes();
-                let answer = unpack(&mut room, file, folder, shelf, maker, notes);
-                end_of_unpacking(answer, notes)
+                sum_and_unpack(&mut room, file, folder, shelf, maker, notes)
             }
             Err(Memory) => Status::Memory,
         }
+    }
+}
+
+/// Tells first where the sum of the file is not the one that it names, and then unpacks it. Where the file or the notes
+/// failed before that, nothing is made.
+fn sum_and_unpack<N: Sink, H: Shelf, M: FileMaker>(
+    room: &mut UnpackRoom,
+    file: &[u8],
+    folder: &[u8],
+    shelf: &mut H,
+    maker: &mut M,
+    notes: &mut N,
+) -> Status
+    ensures did { UnpacksIn file.now folder.now result
+        (unpack_at H.Source H.Shelf.own M.FileMaker N.Sink shelf.old maker.old notes.old)
+        (unpack_at H.Source H.Shelf.own M.FileMaker N.Sink shelf.new maker.new notes.new) }
+    ensures counts { CountsOfUnpacking result
+        (unpack_at H.Source H.Shelf.own M.FileMaker N.Sink shelf.old maker.old notes.old)
+        (unpack_at H.Source H.Shelf.own M.FileMaker N.Sink shelf.new maker.new notes.new) }
+{
+    match find_sums(file, shelf) {
+        Ok(sums) => match tell_sums(sums, notes) {
+            Ok(()) => {
+                let answer = unpack(room, file, folder, shelf, maker, notes);
+                end_of_unpacking(answer, notes)
+            }
+            Err(_) => Status::NotesFault,
+        },
+        Err(_) => tell_unmade(&scp_line("failed scp\n"), notes),
+    }
+}
+
+/// Tells the sums of a file, where they differ.
+fn tell_sums<N: Sink>(sums: Option<Sums>, notes: &mut N) -> Result<(), Failed>
+    ensures { Puts (sink_at N.Sink notes.old) (sink_at N.Sink notes.new) (sums_told sums) result }
+{
+    match sums {
+        Some(sums) => write_line(notes, &sums_line(sums)),
+        None => Ok(()),
     }
 }
 

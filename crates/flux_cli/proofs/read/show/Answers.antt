@@ -2,6 +2,7 @@ use Rattle.std.proofs.Common.{refl, subst}
 use Rattle.dump_reading.specs.Outcomes.{disk_of}
 use Rattle.flux_cli.proofs.Blaming.{CountsBy-noteless}
 use Rattle.flux_cli.proofs.EndingLaws.{dumps-blame, shelf-over-shelf}
+use Rattle.flux_cli.proofs.NotedRun.{HadRoom, had-room}
 use Rattle.flux_cli.proofs.ReadRun.{draw-answers, draw-did, files-failed, read-answers, read-did, read-done}
 use Rattle.flux_cli.proofs.ShelfEnded.{ends-over, shelf-ended}
 use Rattle.flux_cli.specs.ReadRuns.{read_status, read_work}
@@ -56,3 +57,10 @@ returns-in-Image-clause-no_source g c = λ same. subst ends_over_shelf same (she
 pub returns-in-Picture-clause-no_source : goal.returns-in-Picture-clause-no_source
 returns-in-Picture-clause-no_source g c =
     λ same. subst ends_over_shelf same (shelf-over-shelf _ _ c.end_of_dumps-in-Picture.result _ _ read_status read-done c.map_dumps-answer.result c.end_of_dumps-in-Picture.ensures)
+
+pub returns-in-Image-clause-no_memory : goal.returns-in-Image-clause-no_memory
+returns-in-Image-clause-no_memory g c = λ same. subst HadRoom same (had-room _ _ read_status read-done c.read_dumps-answer.result c.end_of_dumps.result _ _ c.end_of_dumps.ensures)
+
+pub returns-in-Picture-clause-no_memory : goal.returns-in-Picture-clause-no_memory
+returns-in-Picture-clause-no_memory g c =
+    λ same. subst HadRoom same (had-room _ _ read_status read-done c.map_dumps-answer.result c.end_of_dumps-in-Picture.result _ _ c.end_of_dumps-in-Picture.ensures)
