@@ -247,7 +247,7 @@ def g64_of(size, cells):
 
 def scp_of(size, count, revolutions):
     """An SCP file with the tracks of all numbers below a count, one behind another or, where it is one, at one place: each has the heads of its
-    revolutions (duration, count of entries, offset) and bytes, by its number and how many bytes it may have."""
+    revolutions (duration, count of entries, offset) and bytes, by its number and how many bytes it may have. Its sum is another than it says."""
     room = (size - 16 - 4 * 168) // count
     tracks = []
     for number in range(count):
@@ -257,7 +257,7 @@ def scp_of(size, count, revolutions):
         tracks.append((b"TRK" + bytes([number]) + told).ljust(begin, b"\0") + data)
     places = [16 + 4 * 168 + sum(map(len, tracks[:number])) for number in range(count)]
     table = struct.pack("<168I", *(places + [0] * 168)[:168])
-    return b"SCP" + bytes([0x24, 0x80, 255, 0, count - 1, 0x11, 0, 0, 0]) + bytes(4) + table + b"".join(tracks)
+    return b"SCP" + bytes([0x24, 0x80, 255, 0, count - 1, 1, 0, 0, 0]) + struct.pack("<I", 1) + table + b"".join(tracks)
 
 
 def one_revolution(entry):

@@ -1,6 +1,10 @@
 """Dumps that are SCP files: they read as the streams that their tracks stand for, and what is said of those that are damaged."""
+import struct
+
+import plain_dumps
 import plain_imd
 import plain_info
+from plain import FORMATS
 from plain_dumps import Dumps, Shelf
 from shared import SHORT, Row, counted, track_file
 from unpacked import DISK, NO_FILES, ONE, SIZE, TRACKS, TWO, disk_of, files_of, scp_file, track
@@ -18,6 +22,15 @@ def ends(*lines):
     """Whether standard error ends with these lines."""
     wanted = "".join(lines).encode()
     return lambda output, errors: None if errors.endswith(wanted) else f"{errors[-200:]!r}"
+
+
+def begins(lines):
+    """Whether standard error begins with these lines, behind which none is like them."""
+    def wrong(output, errors):
+        rest = errors.removeprefix(lines)
+        if len(rest) != len(errors) - len(lines) or b" scp sum " in rest or b" scp ShortData " in rest.replace(b" refused scp ", b""):
+            return f"{errors[:200]!r}"
+    return wrong
 
 
 def some_tracks(program, numbers):
@@ -75,7 +88,88 @@ def damaged_tracks():
     yield Row("info of the files of all tracks", ["info", "made"], b"", *plain_info.info(Shelf({"disk.scp": given}), b"disk.scp"), files=files_of(given))
 
 
+# A file's one track. The sum of its bytes, with those of its offset, is 56A: B0 2; 54 52 4B 3; 12 7A 2 1C, 12 7A 2 20; twice F A0 17 70.
+ALONE, SUM, OTHER = {3: track(3, *TWO)}, 0x56A, 0x9ABCDEF0
+SUMMED = b"scp sum 0000056A wanted 9ABCDEF0\n"
+# The commands that tell what is noted, and those that do not
+TELL = [["read", "mfm-dd-84x2x1x128"], ["read", "--picture", "mfm-dd-84x2x1x128"], ["imd"], ["info"]]
+DO_NOT = [["show", "mfm-dd-84x2x1x128", "1.1", "1"], ["identify"]]
+
+
+def outcome_of(words, names, files):
+    """What a command of TELL comes to by the plain reading."""
+    dumps = Dumps(Shelf(files), [name.encode() for name in names])
+    if words[0] == "info":
+        return plain_info.info(dumps.shelf, *dumps.names)
+    if words[0] == "imd":
+        return plain_imd.imd(dumps)
+    return (plain_dumps.draw if "--picture" in words else plain_dumps.read)(dumps, FORMATS.get(words[-1]))
+
+
+def noted(name, given, lines, commands=TELL):
+    """These lines stand at the head of what is told of a file, and all else is as the plain reading has it."""
+    files = {"disk.scp": given}
+    for words in commands:
+        yield Row(f"{' '.join(words)} of {name}", [*words, "disk.scp"], b"", *outcome_of(words, ["disk.scp"], files), begins(lines), files=files)
+
+
+def summed_files():
+    yield from noted("a file of another sum", scp_file(ALONE, 2, wanted=OTHER), b"dump 0 " + SUMMED)
+    # Sums are of 32 bits, of all bytes to the end, and without the header's.
+    yield from noted("a sum of which one bit is another", scp_file(ALONE, 2, wanted=SUM + (1 << 31)), b"dump 0 scp sum 0000056A wanted 8000056A\n", [["info"]])
+    yield from noted("a sum of more than 32 bits", scp_file(ALONE, 2, wanted=OTHER) + b"\xff" * 16843009, b"dump 0 scp sum 00000569 wanted 9ABCDEF0\n", [["info"]])
+    yield from noted("a file of its sum", scp_file(ALONE, 2, wanted=SUM), b"")
+    yield from noted("a file of another sum that may be written to", scp_file(ALONE, 2, flags=0x11, wanted=OTHER), b"")
+    yield from noted("a hard disk of another sum", scp_file(ALONE, 2, flags=0x41, wanted=OTHER), b"")
+    yield from noted("no track and another sum", scp_file({}, wanted=OTHER), b"dump 0 scp sum 00000000 wanted 9ABCDEF0\n")
+
+
+def ending(number, whole):
+    """A track of three revolutions, inside one of which the file ends."""
+    data = bytearray(track(number, ONE, ONE, ONE))
+    struct.pack_into("<I", data, 8 + 12 * whole, 100000)
+    return bytes(data)
+
+
+def early_ends():
+    tracks = {number: ending(number, whole) for number, whole in ((0, 0), (4, 1), (5, 2), (166, 1))} | {6: track(6, ONE, ONE, ONE)}
+    lines = b"02.0 dump 0 scp ShortData 1\n02.1 dump 0 scp ShortData 2\n83.0 dump 0 scp ShortData 1\n"
+    yield from noted("tracks that end early", scp_file(tracks, 3), lines)
+    # B0 2; 54 52 4B 4; 12 7A 2 28, 12 7A A0 86 1 2C, 12 7A 2 30; three times F A0 17 70
+    yield from noted("a track that ends early, of another sum", scp_file({4: ending(4, 1)}, 3, wanted=OTHER),
+                     b"dump 0 scp sum 0000089C wanted 9ABCDEF0\n02.0 dump 0 scp ShortData 1\n")
+    # What is left of this track is no stream.
+    no_turn = bytearray(ending(5, 1))
+    struct.pack_into("<I", no_turn, 4, 0)
+    yield from noted("a track that ends early and has no turn", scp_file({5: bytes(no_turn)}, 3), b"02.1 dump 0 scp ShortData 1\n")
+
+
+def several_dumps():
+    files = {"a.scp": scp_file(ALONE, 2, wanted=OTHER), "b.scp": scp_file({4: ending(4, 2)}, 3, wanted=1), track_file("c", 1, 1): SHORT}
+    first, second = SUMMED, b"scp sum %08X wanted 00000001\n" % sum(files["b.scp"][16:])
+    for names, lines in ((["a.scp", "c", "b.scp"], b"dump 0 " + first + b"dump 2 " + second + b"02.0 dump 2 scp ShortData 2\n"),
+                         (["c", "b.scp", "a.scp"], b"dump 1 " + second + b"02.0 dump 1 scp ShortData 2\ndump 2 " + first)):
+        for words in TELL[:3]:
+            yield Row(f"{' '.join(words)} of {names}", [*words, *names], b"", *outcome_of(words, names, files), begins(lines), files=files)
+    # A file that fails as it is looked at makes the exit code 8, were it that another dump is not there.
+    fails = {track_file("disk.scp", 0, 0): SHORT}
+    for words in TELL:
+        yield Row(f"{' '.join(words)} of a folder in the file's place", [*words, "disk.scp"], b"", *outcome_of(words, ["disk.scp"], fails),
+                  begins(b"dump 0 scp failed\n"), files=fails)
+    yield Row("read of what fails and what is not there", ["read", DISK, "disk.scp", "b"], b"", 8, b"", b"dump 0 scp failed\nrefused dump 1 b is not there\n", files=fails)
+
+
+def commands_that_do_not_look():
+    given = {"disk.scp": scp_file(ALONE | {4: ending(4, 1)}, 2, wanted=OTHER)}
+    for words in DO_NOT:
+        yield Row(f"{' '.join(words)} of a file of another sum", [*words, "disk.scp"], b"", 1, None, None, begins(b""), files=given)
+
+
 def rows():
     yield from whole_disks()
     yield from refused_files()
     yield from damaged_tracks()
+    yield from summed_files()
+    yield from early_ends()
+    yield from several_dumps()
+    yield from commands_that_do_not_look()

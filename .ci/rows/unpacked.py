@@ -17,13 +17,13 @@ DISK, SIZE = "mfm-dd-2x2x16x256", 16384
 TABLE = 16 + 4 * 168
 
 
-def scp_file(tracks, revolutions=1, flags=1, width=0, resolution=0):
-    """A file of these tracks, by their numbers."""
+def scp_file(tracks, revolutions=1, flags=1, width=0, resolution=0, wanted=0):
+    """A file of these tracks, by their numbers, which names this sum, if it is not 0."""
     offsets, body = [0] * 168, b""
     for number, data in tracks.items():
         offsets[number] = TABLE + len(body)
         body += data
-    return b"SCP" + bytes([0, 0, revolutions, 0, 167, flags, width, 0, resolution]) + bytes(4) + struct.pack("<168I", *offsets) + body
+    return b"SCP" + bytes([0, 0, revolutions, 0, 167, flags, width, 0, resolution]) + struct.pack("<I168I", wanted, *offsets) + body
 
 
 def track(number, *revolutions, signature=b"TRK"):
@@ -88,6 +88,21 @@ def unpacked(name, given):
     yield Row(f"what was unpacked of {name}", ["read", DISK, "made"], b"", 0, counted(SIZE), None, files=lambda program: files_of(given(program)))
 
 
+def sums():
+    """A sum that is another than the file's is told first, whatever comes of its tracks. Of track 3 alone it is 56A (see packed.py)."""
+    alone, other = {3: track(3, *TWO)}, b"scp sum 0000056A wanted 9ABCDEF0\n"
+    for name, wanted, flags, told in (("its sum", 0x56A, 1, b""), ("another sum", 0x9ABCDEF0, 1, other), ("another sum that may be written to", 0x9ABCDEF0, 0x11, b"")):
+        files = {"disk.scp": scp_file(alone, 2, flags, wanted=wanted)}
+        yield Row(f"unpack of a file of {name}", WORDS, b"", 0, b"", told + b"total files 1 refused 0\n", files=files, left=files | files_of(files["disk.scp"]))
+    files = {"disk.scp": scp_file(alone, 2, wanted=0x9ABCDEF0), "made": None, "made/track83.1.raw": b""}
+    yield Row("unpack of a file of another sum where a track is there", WORDS, b"", 8, b"", other + b"refused track 167 exists track83.1.raw\n", files=files, left=files)
+    files = {"disk.scp": scp_file(alone, 2, wanted=0x9ABCDEF0)[:-1]}
+    sums = b"scp sum 000004FA wanted 9ABCDEF0\n"
+    yield Row("unpack of a file of another sum that ends early", WORDS, b"", 1, b"", sums + b"01.1 refused scp ShortData 1\ntotal files 1 refused 1\n", files=files)
+    files = {"disk.scp": scp_file(alone, 2, 0x41, wanted=0x9ABCDEF0)}
+    yield Row("unpack of a hard disk of another sum", WORDS, b"", 2, b"", b"refused scp NotFloppy\n", files=files, left=files)
+
+
 def rows():
     for turns in range(1, 6):
         yield from unpacked(f"{turns} revolutions", lambda program, turns=turns: disk_of(program, turns))
@@ -110,6 +125,7 @@ def rows():
     given = {"disk.scp": scp_file({0: track(0, ONE, (4294967295, [4000]))}, revolutions=2, resolution=1)}
     yield Row("unpack of a revolution behind the last tick", WORDS, b"", 1, b"", b"00.0 refused scp TooLong\ntotal files 0 refused 1\n", files=given,
               left=given | {"made": None})
+    yield from sums()
     given = {"disk.scp": scp_file({0: track(0, ONE), 9: track(9, ONE)})}
     for number in (0, 8, 167):
         files = given | {"made": None, track_file("made", number // 2, number % 2): b""}

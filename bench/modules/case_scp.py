@@ -15,6 +15,14 @@ import scp                                                # noqa: E402
 TRACKS = [divmod(number, 2) for number in range(168)]
 
 
+def summed(chance, kinds, file):
+    """The file with the sum of its bytes, with another or with none, in some of which it may be written to."""
+    total = sum(file[16:]) & 0xFFFFFFFF
+    wanted = chance.choice([0, total, total, total ^ 1 << chance.randrange(32), chance.randrange(1 << 32)])
+    kinds.add("an SCP file of no sum" if wanted == 0 else "an SCP file of its sum" if wanted == total else "an SCP file of another sum")
+    return file[:8] + bytes([file[8] ^ 0x10 * one_in(chance, 4)]) + file[9:12] + struct.pack("<I", wanted) + file[16:]
+
+
 def few_values(chance, kinds):
     """The entries of a revolution."""
     count = chance.choice([0, 1, 2, 3, 40, chance.randrange(2000)])
@@ -58,7 +66,7 @@ def scp_file(chance, kinds):
     if one_in(chance, 12):
         kinds.add("another header")
         head[chance.choice([0, 1, 2, 5, 8, 9, 9])] = chance.choice([0, 8, 16, 0x40, 0x41, chance.randrange(256)])
-    file = bytes(head) + bytes(4) + struct.pack(f"<{table}I", *offsets) + body
+    file = summed(chance, kinds, bytes(head) + bytes(4) + struct.pack(f"<{table}I", *offsets) + body)
     kinds |= {f"{turns} revolutions", f"{len(numbers)} tracks", "a short table" if table < 168 else "a whole table"}
     if one_in(chance, 5):
         kinds.add("a file that ends early")
@@ -101,7 +109,7 @@ def packed(chance, kinds, files):
     if one_in(chance, 12):
         kinds.add("an SCP file that is refused")
         head[chance.choice([0, 8, 9])] = 0x40
-    file = bytes(head) + bytes(4) + struct.pack("<168I", *offsets) + body
+    file = summed(chance, kinds, bytes(head) + bytes(4) + struct.pack("<168I", *offsets) + body)
     if one_in(chance, 10):
         kinds.add("an SCP file that ends early")
         return file[: chance.choice([chance.randrange(16), chance.randrange(len(file))])]

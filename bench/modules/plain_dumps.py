@@ -3,6 +3,7 @@
 Dumps lie on a shelf, which is a folder's files by their paths. A dump is a folder, one of its files, or an SCP file. A file that is not found,
 or that fails, is passed over.
 """
+import functools
 import re
 
 import plain_scp
@@ -214,6 +215,29 @@ class Dumps:
         return passed, entries, others
 
 
+def notes_of(dumps):
+    """What is noted of dumps that are SCP files, and whether one failed as it was looked at."""
+    lines, failed = [], False
+    for number, name in enumerate(dumps.names):
+        try:
+            content = dumps.shelf.read(name) if names_scp(name) else None
+            lines += plain_scp.notes_of(content, number) if content is not None else []
+        except Failed:
+            failed = True
+            lines.append(f"dump {number} scp failed\n")
+    return "".join(lines).encode(), failed
+
+
+def noted(outcome):
+    """The outcome of a command over dumps behind what is noted of them; where one failed as it was looked at, code 8."""
+    @functools.wraps(outcome)
+    def answer(dumps, *rest):
+        lines, failed = notes_of(dumps)
+        code, out, notes = outcome(dumps, *rest)
+        return 8 if failed else code, out, lines + notes
+    return answer
+
+
 def failed_in(passed):
     """How many of the streams that are passed over failed."""
     return sum(why.endswith(" failed") for why in passed)
@@ -272,6 +296,7 @@ def read_tracks(dumps, form, answer, always=True):
         answer.track_beside(track, passed, others)
 
 
+@noted
 def read(dumps, form):
     """The outcome of `read`."""
     answer = DumpAnswer(form)
@@ -283,6 +308,7 @@ def read(dumps, form):
     return code, *answer.said()
 
 
+@noted
 def draw(dumps, form):
     """The outcome of `read --picture`: the picture of the same verdicts, and no report."""
     answer, picture = DumpAnswer(form), Picture(form, "read")

@@ -138,8 +138,9 @@ def track_told(track):
 
 
 def unpack(path, folder, outside):
-    """The tracks of an SCP file as files of the streams that they stand for. What is told of tracks stands before how many files there are."""
-    tree, notes, made, refused = Tree(outside), b"", 0, 0
+    """The tracks of an SCP file as files of the streams that they stand for. A sum that is another is told first; what is told of tracks stands before
+    how many files there are."""
+    tree, made, refused = Tree(outside), 0, 0
     given = tree.lies.get(parts_of(path))
     if given is None:
         return 2, b"", b"refused scp missing\n", tree.paths()
@@ -147,9 +148,10 @@ def unpack(path, folder, outside):
         file = plain_scp.File(given)
     except plain_scp.Refused as stop:
         return 2, b"", f"refused {stop.text()}\n".encode(), tree.paths()
+    notes = "".join(file.sums()).encode()
     there = first_there(tree, folder, [divmod(number, 2) for number in range(plain_scp.TABLE)])
     if there or not tree.make_folder(folder):
-        return 8, b"", there or b"failed folder\n", tree.paths()
+        return 8, b"", notes + (there or b"failed folder\n"), tree.paths()
     for number in file.offsets:
         name = file_name(divmod(number, 2))
         try:

@@ -7,7 +7,7 @@ import bisect
 import dataclasses
 
 from plain import RATES
-from plain_dumps import MOST_DOUBLE_CYLINDERS, all_tracks, failed_in, no_files_line
+from plain_dumps import MOST_DOUBLE_CYLINDERS, all_tracks, failed_in, no_files_line, noted
 from plain_identity import RECORDINGS
 from plain_recordings import places_of
 from plain_streams import recovered
@@ -180,6 +180,7 @@ def text_of(name):
     return " ".join(map(str, name))
 
 
+@noted
 def imd(dumps):
     """The outcome of `imd`, over all readings of the dumps."""
     reached = [(cylinder, head) for cylinder in range(MOST_CYLINDERS if dumps.steps == 1 else MOST_DOUBLE_CYLINDERS) for head in (0, 1)]

@@ -1,5 +1,5 @@
 """What the files of a dump tell without any format, off the definitions: how many bytes, transitions and turns each has, and how fast it turned."""
-from plain_dumps import Dumps, Failed, all_tracks, no_files_line
+from plain_dumps import Dumps, Failed, all_tracks, no_files_line, noted
 from plain_streams import Refused, file_stream
 
 MOST_CYLINDERS = 99
@@ -61,9 +61,16 @@ def turn_lines(means):
 
 def info(shelf, name):
     """The outcome of `info`."""
+    return turns_of(Dumps(shelf, [name]))
+
+
+@noted
+def turns_of(dumps):
+    """The outcome of `info` of one dump."""
+    shelf, (name,) = dumps.shelf, dumps.names
     tracks = tracks_of(shelf, name)
     if not tracks:
-        return 2, b"", no_files_line(Dumps(shelf, [name]), 0)
+        return 2, b"", no_files_line(dumps, 0)
     lines, means, begins = [], [], []
     for cylinder, head in tracks:
         told, mean = read_file(shelf, name, cylinder, head)

@@ -54,40 +54,58 @@ class File:
                 yield number, offset
 
     def sums(self):
-        """The sum of the bytes behind the header and the one that is wanted, where they differ."""
+        """What is told of the sum of the bytes behind the header, where it is not the one that is wanted."""
         (wanted,) = struct.unpack_from("<I", self.data, 12)
         found = sum(self.data[16:]) & 0xFFFFFFFF
-        return None if self.data[8] & 0x10 or wanted in (0, found) else (found, wanted)
+        return [] if self.data[8] & 0x10 or wanted in (0, found) else [f"scp sum {found:08X} wanted {wanted:08X}\n"]
 
     def track(self, number):
         """A track that has a place."""
         return Track(self.data[self.offsets[number] :], number, self.turns, self.resolution)
+
+    def ends(self):
+        """The tracks inside which the file ends behind whole revolutions, with how many these are."""
+        for number, offset in self.offsets.items():
+            try:
+                _, short = revolutions(self.data[offset:], number, self.turns)
+            except Refused:
+                continue
+            if short:
+                yield number, short
+
+
+def revolutions(data, number, turns):
+    """The durations and entries of a track's revolutions, and the first that the file has not whole, if one was read before it."""
+    if len(data) < 4 + 12 * turns:
+        raise Refused("ShortTrack")
+    if data[:3] != b"TRK":
+        raise Refused("BadSignature")
+    if data[3] != number:
+        raise Refused("BadNumber", data[3])
+    whole, read = [], 0
+    for turn, (length, count, offset) in enumerate(struct.iter_unpack("<III", data[4 : 4 + 12 * turns])):
+        if count == 0:
+            break
+        read += count
+        if read > MOST_ENTRIES:
+            raise Refused("TooLong")
+        if len(data) < offset + 2 * count:
+            if turn == 0:
+                raise Refused("ShortData", turn)
+            return whole, turn
+        whole.append((length, data[offset : offset + 2 * count]))
+    return whole, None
 
 
 class Track:
     """The times and index times of a track, and the first revolution that the file has not whole, if one was read before it."""
 
     def __init__(self, data, number, turns, resolution):
-        if len(data) < 4 + 12 * turns:
-            raise Refused("ShortTrack")
-        if data[:3] != b"TRK":
-            raise Refused("BadSignature")
-        if data[3] != number:
-            raise Refused("BadNumber", data[3])
-        self.times, self.indexes, self.short = [], [0], None
-        read = past = duration = 0
-        for turn, (length, count, offset) in enumerate(struct.iter_unpack("<III", data[4 : 4 + 12 * turns])):
-            if count == 0:
-                break
-            read += count
-            if read > MOST_ENTRIES:
-                raise Refused("TooLong")
-            if len(data) < offset + 2 * count:
-                if turn == 0:
-                    raise Refused("ShortData", turn)
-                self.short = turn
-                break
-            for (value,) in struct.iter_unpack(">H", data[offset : offset + 2 * count]):
+        whole, self.short = revolutions(data, number, turns)
+        self.times, self.indexes = [], [0]
+        past = duration = 0
+        for length, entries in whole:
+            for (value,) in struct.iter_unpack(">H", entries):
                 past += value or 65536
                 if value:
                     self.times.append(rounded(past, resolution))
@@ -113,6 +131,15 @@ class Track:
         for moment in left:
             out += struct.pack("<BBHIII", 13, 2, 12, position, moment - before, moment // 8)
         return bytes(out + struct.pack("<BBHII", 13, 3, 8, position, 0) + b"\r" * 4)
+
+
+def notes_of(data, dump):
+    """What is noted of the file of a dump, by its number: nothing where it is refused."""
+    try:
+        file = File(data)
+    except Refused:
+        return []
+    return [f"dump {dump} {told}" for told in file.sums()] + [f"{number // 2:02}.{number % 2} dump {dump} scp ShortData {turns}\n" for number, turns in file.ends()]
 
 
 @functools.lru_cache(maxsize=None)
