@@ -101,6 +101,8 @@ def sums():
     yield Row("unpack of a file of another sum that ends early", WORDS, b"", 1, b"", sums + b"01.1 refused scp ShortData 1\ntotal files 1 refused 1\n", files=files)
     files = {"disk.scp": scp_file(alone, 2, 0x41, wanted=0x9ABCDEF0)}
     yield Row("unpack of a hard disk of another sum", WORDS, b"", 2, b"", b"refused scp NotFloppy\n", files=files, left=files)
+    files = {"disk.scp": None}
+    yield Row("unpack of a folder in the file's place", WORDS, b"", 8, b"", b"failed scp\n", files=files, left=files)
 
 
 def rows():
