@@ -12,16 +12,27 @@ static NIBBLES: [u8; 64] = [
     0xED, 0xEE, 0xEF, 0xF2, 0xF3, 0xF4, 0xF5, 0xF6, 0xF7, 0xF9, 0xFA, 0xFB, 0xFC, 0xFD, 0xFE, 0xFF,
 ];
 
-/// For each byte from 80 on the value whose nibble it is, or 0 where it is the nibble of none.
-static VALUES_BY_BYTE: [u8; 128] = [
-    0, 0, 0, 0, 0, 0, 0, 0, 0, 0, 0, 0, 0, 0, 0, 0, //
-    0, 0, 0, 0, 0, 0, 0, 1, 0, 0, 2, 3, 0, 4, 5, 6, //
-    0, 0, 0, 0, 0, 0, 7, 8, 0, 0, 0, 9, 10, 11, 12, 13, //
-    0, 0, 14, 15, 16, 17, 18, 19, 0, 20, 21, 22, 23, 24, 25, 26, //
-    0, 0, 0, 0, 0, 0, 0, 0, 0, 0, 0, 27, 0, 28, 29, 30, //
-    0, 0, 0, 31, 0, 0, 32, 33, 0, 34, 35, 36, 37, 38, 39, 40, //
-    0, 0, 0, 0, 0, 41, 42, 43, 0, 44, 45, 46, 47, 48, 49, 50, //
-    0, 0, 51, 52, 53, 54, 55, 56, 0, 57, 58, 59, 60, 61, 62, 63,
+/// In the place of a value, for a byte that is the nibble of none.
+const NO: u8 = 0xFF;
+
+/// The value whose nibble each byte is.
+static VALUES_BY_BYTE: [u8; 256] = [
+    NO, NO, NO, NO, NO, NO, NO, NO, NO, NO, NO, NO, NO, NO, NO, NO, //
+    NO, NO, NO, NO, NO, NO, NO, NO, NO, NO, NO, NO, NO, NO, NO, NO, //
+    NO, NO, NO, NO, NO, NO, NO, NO, NO, NO, NO, NO, NO, NO, NO, NO, //
+    NO, NO, NO, NO, NO, NO, NO, NO, NO, NO, NO, NO, NO, NO, NO, NO, //
+    NO, NO, NO, NO, NO, NO, NO, NO, NO, NO, NO, NO, NO, NO, NO, NO, //
+    NO, NO, NO, NO, NO, NO, NO, NO, NO, NO, NO, NO, NO, NO, NO, NO, //
+    NO, NO, NO, NO, NO, NO, NO, NO, NO, NO, NO, NO, NO, NO, NO, NO, //
+    NO, NO, NO, NO, NO, NO, NO, NO, NO, NO, NO, NO, NO, NO, NO, NO, //
+    NO, NO, NO, NO, NO, NO, NO, NO, NO, NO, NO, NO, NO, NO, NO, NO, //
+    NO, NO, NO, NO, NO, NO, 0, 1, NO, NO, 2, 3, NO, 4, 5, 6, //
+    NO, NO, NO, NO, NO, NO, 7, 8, NO, NO, NO, 9, 10, 11, 12, 13, //
+    NO, NO, 14, 15, 16, 17, 18, 19, NO, 20, 21, 22, 23, 24, 25, 26, //
+    NO, NO, NO, NO, NO, NO, NO, NO, NO, NO, NO, 27, NO, 28, 29, 30, //
+    NO, NO, NO, 31, NO, NO, 32, 33, NO, 34, 35, 36, 37, 38, 39, 40, //
+    NO, NO, NO, NO, NO, 41, 42, 43, NO, 44, 45, 46, 47, 48, 49, 50, //
+    NO, NO, 51, 52, 53, 54, 55, 56, NO, 57, 58, 59, 60, 61, 62, 63,
 ];
 
 /// How a byte is taken from the cells, here and nowhere else: the eight cells at the offset, high bit first.
@@ -45,9 +56,6 @@ pub fn value_of(byte: u8) -> Option<u8>
     ensures some { IfSome result (λ value. (value < 64) × (nibble value ≡ byte)) }
     ensures none { IfNone result ((value : ℕ) → value < 64 → nibble value ≢ byte) }
 {
-    let value = VALUES_BY_BYTE[(byte % 128) as usize];
-    if NIBBLES[value as usize] == byte {
-        return Some(value);
-    }
-    None
+    let value = VALUES_BY_BYTE[byte as usize];
+    if value == NO { None } else { Some(value) }
 }
