@@ -1,5 +1,5 @@
 -- The code's tables against the list of codes.
-use Rattle.std.proofs.Common.{◌≡◌, ℕ, ◌+◌, ◌*◌, ◌/◌, ◌%◌, ◌<◌, Bool, false, if◌then◌else◌, nat_eq, List, get_or, map, refl, ap, sym, ◌∙◌, arith, lit<}
+use Rattle.std.proofs.Common.{◌≡◌, ℕ, ◌+◌, ◌*◌, ◌/◌, ◌%◌, ◌<◌, ◌≤◌, Bool, false, if◌then◌else◌, nat_eq, List, get_or, map, refl, ap, sym, ◌∙◌, arith, lit<}
 use Rattle.std.specs.List.{range_with_len}
 use Rattle.std.proofs.lemmas.Bool.Decides.{nat_tests}
 use Rattle.std.proofs.lemmas.List.FromFn.{get_or-map-range_with_len}
@@ -22,7 +22,7 @@ nibble_table : map (λ n. get_or NIBBLES (code_of n) 0) (range_with_len 0 16) �
 unfolding code_of
 nibble_table = refl
 
-nibble_of_code : (nibble : ℕ) → nibble < 16 → get_or NIBBLES (code_of nibble) 0 ≡ nibble
+pub nibble_of_code : (nibble : ℕ) → nibble < 16 → get_or NIBBLES (code_of nibble) 0 ≡ nibble
 nibble_of_code nibble low = agree_at (λ n. get_or NIBBLES (code_of n) 0) (λ n. n) 16 nibble low nibble_table
 
 -- codes have five bits
@@ -61,37 +61,41 @@ pub code_in_table : (nibble : ℕ) → get_or CODES nibble 0 ≡ code_of nibble
 unfolding code_of
 code_in_table nibble = refl
 
-codes_again : map (λ c. if nat_eq (get_or NIBBLES c 0) 255 then c else code_of (get_or NIBBLES c 0)) (range_with_len 0 32) ≡ map (λ c. c) (range_with_len 0 32)
+codes_again : map (λ c. if nat_eq (get_or NIBBLES c 0) 256 then c else code_of (get_or NIBBLES c 0)) (range_with_len 0 32) ≡ map (λ c. c) (range_with_len 0 32)
 unfolding code_of
 codes_again = refl
 
-four_bits : map (λ c. if nat_eq (get_or NIBBLES c 0) 255 then 0 else get_or NIBBLES c 0 % 16) (range_with_len 0 32)
-    ≡ map (λ c. if nat_eq (get_or NIBBLES c 0) 255 then 0 else get_or NIBBLES c 0) (range_with_len 0 32)
+four_bits : map (λ c. if nat_eq (get_or NIBBLES c 0) 256 then 0 else get_or NIBBLES c 0 % 16) (range_with_len 0 32)
+    ≡ map (λ c. if nat_eq (get_or NIBBLES c 0) 256 then 0 else get_or NIBBLES c 0) (range_with_len 0 32)
 four_bits = refl
 
 -- each number in the table of nibbles that is not the filler is the nibble of its code
-pub code_of_nibble : (code : ℕ) → code < 32 → ¬ (get_or NIBBLES code 0 ≡ 255) → code_of (get_or NIBBLES code 0) ≡ code
+pub code_of_nibble : (code : ℕ) → code < 32 → ¬ (get_or NIBBLES code 0 ≡ 256) → code_of (get_or NIBBLES code 0) ≡ code
 code_of_nibble code short filled =
-    let known : nat_eq (get_or NIBBLES code 0) 255 ≡ false = grind (arith, nat_tests) in
+    let known : nat_eq (get_or NIBBLES code 0) 256 ≡ false = grind (arith, nat_tests) in
     ap (λ (no : Bool). if no then code else code_of (get_or NIBBLES code 0)) (sym known)
-    ∙ agree_at (λ c. if nat_eq (get_or NIBBLES c 0) 255 then c else code_of (get_or NIBBLES c 0)) (λ c. c) 32 code short codes_again
+    ∙ agree_at (λ c. if nat_eq (get_or NIBBLES c 0) 256 then c else code_of (get_or NIBBLES c 0)) (λ c. c) 32 code short codes_again
 
-pub nibble_fits : (code : ℕ) → code < 32 → ¬ (get_or NIBBLES code 0 ≡ 255) → get_or NIBBLES code 0 < 16
+pub nibble_fits : (code : ℕ) → code < 32 → ¬ (get_or NIBBLES code 0 ≡ 256) → get_or NIBBLES code 0 < 16
 nibble_fits code short filled =
     let nibble = get_or NIBBLES code 0 in
-    let known : nat_eq nibble 255 ≡ false = grind (arith, nat_tests) in
+    let known : nat_eq nibble 256 ≡ false = grind (arith, nat_tests) in
     let same : nibble % 16 ≡ nibble =
     ap (λ (no : Bool). if no then 0 else nibble % 16) (sym known)
-    ∙ agree_at (λ c. if nat_eq (get_or NIBBLES c 0) 255 then 0 else get_or NIBBLES c 0 % 16)
-    (λ c. if nat_eq (get_or NIBBLES c 0) 255 then 0 else get_or NIBBLES c 0) 32 code short four_bits
+    ∙ agree_at (λ c. if nat_eq (get_or NIBBLES c 0) 256 then 0 else get_or NIBBLES c 0 % 16)
+    (λ c. if nat_eq (get_or NIBBLES c 0) 256 then 0 else get_or NIBBLES c 0) 32 code short four_bits
     ∙ ap (λ (no : Bool). if no then 0 else nibble) known in
     omega (arith, same, mod-lt nibble (let some : 0 < 16 = lit< tt in some))
 
--- the filler stands at no code
-pub no_code : (code : ℕ) → get_or NIBBLES code 0 ≡ 255 → (nibble : ℕ) → nibble < 16 → ¬ (code_of nibble ≡ code)
-no_code code filler nibble low same =
-    let known : get_or NIBBLES code 0 ≡ nibble = ap (λ c. get_or NIBBLES c 0) (sym same) ∙ nibble_of_code nibble low in
-    omega (arith, known, filler)
+-- and no number in it is above the filler
+at_most_no : map (λ c. get_or NIBBLES c 0 % 257) (range_with_len 0 32) ≡ map (λ c. get_or NIBBLES c 0) (range_with_len 0 32)
+at_most_no = refl
+
+pub nibble_at_most : (code : ℕ) → code < 32 → get_or NIBBLES code 0 ≤ 256
+nibble_at_most code short =
+    let nibble = get_or NIBBLES code 0 in
+    let same = agree_at (λ c. get_or NIBBLES c 0 % 257) (λ c. get_or NIBBLES c 0) 32 code short at_most_no in
+    omega (arith, same, mod-lt nibble (let some : 0 < 257 = lit< tt in some))
 
 -- ten cells that are the code of a byte
 pub byte_is : (cells high low : ℕ) → cells < 1024 → high < 16 → low < 16 → code_of high ≡ cells / 32 → code_of low ≡ cells % 32
@@ -112,3 +116,29 @@ codes_are cells byte fits short same =
     sym (number_of-gcr byte) ∙ ap number_of same ∙ number_of-word_cells 10 cells ∙ mod-eq_of_lt fits in
     let split : gcr_number byte ≡ cells / 32 * 32 + cells % 32 = omega (arith, number) in
     codes_of_number byte (cells / 32) (cells % 32) (mod-lt cells (lit< tt)) split
+
+-- what the table has at the two codes of ten cells, together
+abbrev pub together : ℕ → ℕ
+together cells = 16 * get_or NIBBLES (cells / 32) 0 + get_or NIBBLES (cells % 32) 0
+
+-- where that is below the filler it is the byte of the cells
+pub together_is : (cells : ℕ) → cells < 1024 → together cells < 256 → gcr (together cells) ≡ word_cells 10 cells
+together_is cells fits small =
+    let high = get_or NIBBLES (cells / 32) 0 in
+    let low = get_or NIBBLES (cells % 32) 0 in
+    let first : cells / 32 < 32 = omega (arith, fits) in
+    let second : cells % 32 < 32 = mod-lt cells (lit< tt) in
+    let high_filled : ¬ (high ≡ 256) = λ no. omega (arith, no, small) in
+    let low_filled : ¬ (low ≡ 256) = λ no. omega (arith, no, small) in
+    byte_is cells high low fits (nibble_fits (cells / 32) first high_filled) (nibble_fits (cells % 32) second low_filled)
+    (code_of_nibble (cells / 32) first high_filled) (code_of_nibble (cells % 32) second low_filled)
+
+-- and where it is not the cells are those of no byte
+pub together_no : (cells byte : ℕ) → cells < 1024 → byte < 256 → 256 ≤ together cells → ¬ (gcr byte ≡ word_cells 10 cells)
+together_no cells byte fits short large same =
+    let codes = codes_are cells byte fits short same in
+    let high : get_or NIBBLES (cells / 32) 0 ≡ byte / 16 % 16 =
+    ap (λ (code : ℕ). get_or NIBBLES code 0) (sym codes.0) ∙ nibble_of_code (byte / 16 % 16) (nibble-lt (byte / 16)) in
+    let low : get_or NIBBLES (cells % 32) 0 ≡ byte % 16 =
+    ap (λ (code : ℕ). get_or NIBBLES code 0) (sym codes.1) ∙ nibble_of_code (byte % 16) (nibble-lt byte) in
+    omega (arith, high, low, large, nibble-lt (byte / 16), nibble-lt byte)

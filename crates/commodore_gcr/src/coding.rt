@@ -1,6 +1,6 @@
 ghost use Rattle.std.specs.Prelude.{◌≡◌, ℕ, ◌<◌, IfNone, IfSome};
 ghost use Rattle.cell_bits.specs.Word.{word_cells};
-ghost use Rattle.commodore_gcr.specs.Coding.{code_of, gcr};
+ghost use Rattle.commodore_gcr.specs.Coding.{gcr};
 
 /// The code of each nibble, five cells (Commodore 1541).
 static CODES: [u8; 16] = [
@@ -8,11 +8,11 @@ static CODES: [u8; 16] = [
     0b01001, 0b11001, 0b11010, 0b11011, 0b01101, 0b11101, 0b11110, 0b10101,
 ];
 
-/// In the place of a nibble, for five cells that are no code.
-const NO: u8 = 0xFF;
+/// In the place of a nibble, for five cells that are no code: more than two nibbles together can be.
+const NO: u16 = 0x100;
 
 /// The nibble of each code, by the number of its five cells.
-static NIBBLES: [u8; 32] = [
+static NIBBLES: [u16; 32] = [
     NO, NO, NO, NO, NO, NO, NO, NO, NO, 0x8, 0x0, 0x1, NO, 0xC, 0x4, 0x5, //
     NO, NO, 0x2, 0x3, NO, 0xF, 0x6, 0x7, NO, 0x9, 0xA, 0xB, NO, 0xD, 0xE, NO,
 ];
@@ -33,18 +33,7 @@ pub(crate) fn decoded(cells: u32) -> Option<u8>
     ensures byte { IfSome result (λ byte. gcr byte ≡ word_cells 10 cells) }
     ensures none { IfNone result ((byte : ℕ) → byte < 256 → ¬ (gcr byte ≡ word_cells 10 cells)) }
 {
-    let high = nibble(cells / 32)?;
-    let low = nibble(cells % 32)?;
-    Some(16 * high + low)
-}
-
-/// The nibble of five cells, which are given as a number. None where they are no code.
-fn nibble(code: u32) -> Option<u8>
-    requires { code < 32 }
-    ensures low { IfSome result (λ nibble. nibble < 16) }
-    ensures nibble { IfSome result (λ nibble. code_of nibble ≡ code) }
-    ensures none { IfNone result ((nibble : ℕ) → nibble < 16 → ¬ (code_of nibble ≡ code)) }
-{
-    let nibble = NIBBLES[code as usize];
-    if nibble == NO { None } else { Some(nibble) }
+    // both are asked at once whether they are codes
+    let byte = 16 * NIBBLES[(cells / 32) as usize] + NIBBLES[(cells % 32) as usize];
+    if byte < NO { Some(byte as u8) } else { None }
 }

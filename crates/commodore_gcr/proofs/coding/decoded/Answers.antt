@@ -1,19 +1,21 @@
-use Rattle.std.proofs.Common.{◌/◌, ◌%◌}
-use Rattle.commodore_gcr.specs.lemmas.RowLaws.{nibble-lt}
-use Rattle.commodore_gcr.proofs.Tables.{byte_is, codes_are}
+use Rattle.std.proofs.Common.{◌<◌, ◌/◌, ◌%◌, arith, lit<}
+use Rattle.std.proofs.Math.Nat.{mod-lt}
+use Rattle.commodore_gcr.proofs.Tables.{nibble_at_most, together_is, together_no}
 use Rattle.commodore_gcr.proofs.coding.decoded.Goals as goal
 
-pub returns-in_err-high-clause-none : goal.returns-in_err-high-clause-none
-returns-in_err-high-clause-none c =
-    rw c.from_residual.ensures
-    (λ byte fits same. c.in_err-high.ensures.none (byte / 16 % 16) (nibble-lt (byte / 16)) (codes_are c.args.cells byte c.requires fits same).0)
+pub overflow_mul-byte : goal.overflow_mul-byte
+overflow_mul-byte c =
+    let first : c.args.cells / 32 < 32 = omega (arith, c.requires) in
+    omega (arith, nibble_at_most (c.args.cells / 32) first)
 
-pub returns-in_err-low-clause-none : goal.returns-in_err-low-clause-none
-returns-in_err-low-clause-none c =
-    rw c.from_residual-in_err-low.ensures
-    (λ byte fits same. c.in_err-low.ensures.none (byte % 16) (nibble-lt byte) (codes_are c.args.cells byte c.requires fits same).1)
+pub overflow_add-byte : goal.overflow_add-byte
+overflow_add-byte c =
+    let first : c.args.cells / 32 < 32 = omega (arith, c.requires) in
+    let second : c.args.cells % 32 < 32 = mod-lt c.args.cells (lit< tt) in
+    omega (arith, nibble_at_most (c.args.cells / 32) first, nibble_at_most (c.args.cells % 32) second)
 
-pub returns-clause-byte : goal.returns-clause-byte
-returns-clause-byte c =
-    byte_is c.args.cells c.in_ok-high.high c.in_ok-low.low c.requires c.in_ok-high.ensures.low c.in_ok-low.ensures.low
-    c.in_ok-high.ensures.nibble c.in_ok-low.ensures.nibble
+pub returns-then-byte-lt-NO-clause-byte : goal.returns-then-byte-lt-NO-clause-byte
+returns-then-byte-lt-NO-clause-byte c = together_is c.args.cells c.requires c.if-byte-lt-NO.true
+
+pub returns-else-byte-lt-NO-clause-none : goal.returns-else-byte-lt-NO-clause-none
+returns-else-byte-lt-NO-clause-none c = λ byte short. together_no c.args.cells byte c.requires short (omega (arith, c.if-byte-lt-NO.false))
