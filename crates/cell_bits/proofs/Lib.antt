@@ -5,6 +5,7 @@ pub mod Copies
 pub mod Dense
 pub mod FourRuns
 pub mod Joining
+pub mod Keeping
 pub mod Packing
 pub mod Searching
 pub mod Tables

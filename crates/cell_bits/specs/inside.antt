@@ -1,4 +1,5 @@
 -- What the crate's own functions say to one another: no public contract cites it.
+pub mod Kept
 pub mod Packed
 pub mod Spread
 pub mod Window

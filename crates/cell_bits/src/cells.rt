@@ -3,10 +3,12 @@ ghost use Rattle.cell_bits.specs.State.{room};
 ghost use Rattle.cell_bits.specs.inside.Window.{IsWindow, IsJoined};
 
 mod copies;
+mod places;
 mod pushes;
 mod reads;
 mod search;
 
+use self::places::KeptPlaces;
 pub use self::pushes::longest_run;
 use flux_base::Memory;
 use std::alloc::Global;
@@ -25,6 +27,8 @@ pub struct Cells {
     last: u64,
     /// How many cells `last` holds, below 64.
     filled: u32,
+    /// Places at which words stand among them.
+    kept: KeptPlaces,
 }
 
 impl Model for Cells {
@@ -48,6 +52,7 @@ impl Cells {
             words: Vec::new(alloc),
             last: 0,
             filled: 0,
+            kept: KeptPlaces::new(alloc),
         }
     }
 
@@ -75,6 +80,7 @@ impl Cells {
         self.words.clear();
         self.last = 0;
         self.filled = 0;
+        self.kept.forget();
     }
 
     /// The number of cells.

@@ -1,10 +1,11 @@
 -- How a list of cells lies in memory: 64 cells a word, high bit first, and the cells after the last
--- whole word in a number of their own.
+-- whole word in a number of their own; and places at which words stand among them.
 use Rattle.std.specs.Prelude.{ℕ, ◌+◌, ◌-◌, ◌*◌, ◌^◌, ◌<◌, ◌≤◌, min, ◌++◌, flat_map, vec_len}
 use Rattle.std.specs.Prelude.{vec_capacity}
 use Rattle.cell_bits.specs.State.{CellsState}
 use Rattle.cell_bits.specs.Word.{word_cells}
 use Rattle.cell_bits.specs.declared.cells.Cells.TheInside.{Inside}
+use Rattle.cell_bits.specs.inside.Kept.{AreKept}
 
 -- the most whole words of a list, so that its length is below 2 ^ 63
 abbrev pub most_words : ℕ
@@ -17,4 +18,6 @@ packed a = record {
 }
 
 abbrev pub IsPacked : Inside → Type 0
-IsPacked a = (a.filled < 64) × (a.last < 2 ^ a.filled) × (vec_len a.words ≤ most_words)
+IsPacked a =
+    (a.filled < 64) × (a.last < 2 ^ a.filled) × (vec_len a.words ≤ most_words)
+    × AreKept (packed a).cells a.kept

@@ -95,6 +95,7 @@ impl Cells {
             self.words.truncate(words);
             self.last = last;
             self.filled = filled;
+            self.kept.forget();
         }
         pushed
     }

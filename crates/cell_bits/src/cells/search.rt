@@ -5,13 +5,27 @@ ghost use Rattle.cell_bits.specs.inside.Window.{AreCandidates, AreCellsOf, Begin
 ghost use Rattle.cell_bits.specs.inside.Window.{StandAt, cell_of_two};
 ghost use Rattle.cell_bits.specs.Broken.{Unbroken};
 
+use super::places::Known;
 use super::{Cells, joined};
 
 impl Cells {
     /// The least place, at least `from` and below `to`, where the low `count` bits of the word stand whole,
     /// high bit first, for a count of 1 to 32. None where there is none. The bits above are not looked at, and
-    /// `from` and `to` may lie past the list's end.
+    /// `from` and `to` may lie past the list's end. Places that are kept are not sought again.
     pub fn find_word(&self, from: usize, to: usize, word: u32, count: u8) -> Option<usize>
+        requires some { 1 ≤ count }
+        requires most { count ≤ 32 }
+        ensures { IsFirstWord self.now.cells word count from to result }
+    {
+        match self.kept.first(from, word, count) {
+            Known::At(place) if place < to => Some(place),
+            Known::At(_) => None,
+            Known::NowhereBelow(sought) => self.seek_word(from.max(sought), to, word, count),
+        }
+    }
+
+    /// The same by a look at all cells.
+    pub(crate) fn seek_word(&self, from: usize, to: usize, word: u32, count: u8) -> Option<usize>
         requires some { 1 ≤ count }
         requires most { count ≤ 32 }
         ensures { IsFirstWord self.now.cells word count from to result }
@@ -69,7 +83,7 @@ impl Cells {
         if self.is_dense(from, to) {
             return true;
         }
-        self.find_word(from, to - 7, 0, 8).is_none()
+        self.seek_word(from, to - 7, 0, 8).is_none()
     }
 
     /// Whether each word that has cells at these places has a one among each four cells. Eight zeros in a row have such

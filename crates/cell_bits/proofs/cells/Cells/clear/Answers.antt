@@ -5,6 +5,9 @@ use Rattle.cell_bits.specs.Word.{word_cells}
 use Rattle.cell_bits.proofs.Packing.{all_cells, room-within}
 use Rattle.cell_bits.proofs.cells.Cells.clear.Goals as goal
 
+pub invariant_of-self : goal.invariant_of-self
+invariant_of-self c = (omega arith, omega arith, omega (arith, c.clear.ensures.len), c.forget.ensures _ _ c.self.invariant.3)
+
 pub returns-clause-cells : goal.returns-clause-cells
 unfolding word_cells
 returns-clause-cells c = ap (λ words. all_cells words 0 0) c.clear.ensures.items

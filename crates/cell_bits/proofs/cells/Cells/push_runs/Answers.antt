@@ -6,6 +6,10 @@ use Rattle.cell_bits.proofs.Runs.{runs-few, runs-most}
 use Rattle.cell_bits.proofs.Packing.{all_cells, taken_back, length-all, room-within}
 use Rattle.cell_bits.proofs.cells.Cells.push_runs.Goals as goal
 
+pub invariant_of-self : goal.invariant_of-self
+invariant_of-self c =
+    (c.self.invariant.0, c.self.invariant.1, omega (arith, c.truncate.ensures.len, c.self-2.invariant.2), c.forget.ensures _ _ c.self-2.invariant.3)
+
 pub returns-then-is_err-clause-few : goal.returns-then-is_err-clause-few
 returns-then-is_err-clause-few c = runs-few c.args.counts.now
 

@@ -1,7 +1,7 @@
 use Rattle.std.proofs.Common.{◌-◌, ◌≤◌}
 use Rattle.cell_bits.specs.Search.{StandsNowhere}
 use Rattle.cell_bits.specs.inside.Window.{IsWindow}
-use Rattle.cell_bits.proofs.cells.Cells.find_word.Given as goal
+use Rattle.cell_bits.proofs.cells.Cells.seek_word.Given as goal
 
 abbrev pub invariant-loop-place : goal.invariant-loop-place
 invariant-loop-place l = record {
