@@ -62,6 +62,11 @@ fn reads_across_the_border_of_a_word(rt: HostRuntime) -> Result<(), Fail> {
     assert!(rt; !cells.unbroken(65, 73));
     assert_eq!(rt; cells.ones_to(127), 3);
     assert_eq!(rt; cells.ones_between(64, 128), 2);
+    cells.reserve_places(rt.alloc(), 1)?;
+    cells.keep_places(3, 2);
+    assert_eq!(rt; cells.find_word(64, 200, 3, 2), Some(127));
+    cells.push_word(3, 2)?;
+    assert_eq!(rt; cells.find_word(128, 202, 3, 2), Some(200));
     cells.clear();
     assert_eq!(rt; cells.len(), 0);
     Ok(())
