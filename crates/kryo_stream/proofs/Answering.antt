@@ -19,7 +19,7 @@ use Rattle.kryo_stream.specs.declared.fault.TrackFault.TheVariants.{ReadFault, M
 use Rattle.kryo_stream.specs.Bench.{BenchState, IsNoted, HasFullBench, KeepsBenchRoom, IsSized}
 use Rattle.kryo_stream.specs.inside.Bench.{IsComplete, TurnCause}
 use Rattle.kryo_stream.specs.Pieces.{BlockOrFault, piece_at}
-use Rattle.kryo_stream.specs.Stream.{total_bytes, ticks, marks, index_time, block_of_byte, is_in_stream, in_stream_bytes, block_ticks, pieces, is_end, turn_fault, indexes_of}
+use Rattle.kryo_stream.specs.Stream.{total_bytes, ticks, marks, index_time, block_of_byte, is_in_stream, block_ticks, pieces, is_end, turn_fault, indexes_of}
 use Rattle.kryo_stream.specs.Outcome.{Answer, Says, IsTruncated, IsCut, IsRead, IsReadOfInput, DoNotTell, input_of, HasFullRoom, IsSmall, IsNotMemory, is_read_fault}
 use Rattle.kryo_stream.specs.Tally.{new_times}
 use Rattle.kryo_stream.specs.inside.Tally.{at_start, behind, IsWithin, MayFollow, IsTally}
@@ -57,13 +57,13 @@ at_block {old} {mid} {new} {held} {now} {n} {b} {ts} {bench} taken p takes =
 pub Progress-push : {old mid new : SourceMoment} {held now next : List ℕ} {n : ℕ} {b : Before} {ts : List ℕ} {bench : BenchState} (p : SpelledBlock) (bench' : BenchState)
     → Progress old mid held now n b ts bench → TakesBlock mid new now next b (Ok (Ok p))
     → is_end p.block ≡ false → IsWithin (behind b p)
-    → ((ps : List SpelledBlock) → IsNoted ps bench → length ps ≡ n → in_stream_bytes ps ≡ b.counted → IsNoted (ps ++ p ∷ []) bench')
+    → ((ps : List SpelledBlock) → IsNoted ps bench → length ps ≡ n → IsNoted (ps ++ p ∷ []) bench')
     → Progress old new held next (n + 1) (behind b p) (ts ++ new_times b.time p.block) bench'
 Progress-push {old} {mid} {new} {held} {now} {next} {n} {b} {ts} {bench} p bench' r t going within noted =
     let one : suc n ≡ n + 1 = omega arith in
     let here : Progress old new held (now ++ t.taken) n b ts bench = at_block t.taken r t.takes in
     let more : IsNoted (pieces (held ++ here.taken) n ++ p ∷ []) bench' =
-    noted (pieces (held ++ here.taken) n) here.reading.noted here.reading.size (sym here.reading.tally.counted) in record {
+    noted (pieces (held ++ here.taken) n) here.reading.noted here.reading.size in record {
       taken = here.taken;
       takes = here.takes;
       reading = subst (λ rest. IsReading (held ++ here.taken) (n + 1) rest (behind b p) (ts ++ new_times b.time p.block) bench') (sym t.says.1)
@@ -157,7 +157,7 @@ pub record AtEnd (old new : SourceMoment) (held next : List ℕ) (n : ℕ) (b : 
 
 pub at_end : {old mid new : SourceMoment} {held now next : List ℕ} {n : ℕ} {b : Before} {ts : List ℕ} {bench bench' : BenchState} (p : SpelledBlock)
     (transitions : List ℕ) → Progress old mid held now n b ts bench → TakesBlock mid new now next b (Ok (Ok p)) → p.block ≡ End
-    → ((ps : List SpelledBlock) → IsNoted ps bench → length ps ≡ n → in_stream_bytes ps ≡ b.counted → IsNoted (ps ++ p ∷ []) bench')
+    → ((ps : List SpelledBlock) → IsNoted ps bench → length ps ≡ n → IsNoted (ps ++ p ∷ []) bench')
     → transitions ≡ ts ++ new_times b.time p.block
     → AtEnd old new held next n b ts bench bench' p transitions
 at_end {old} {mid} {new} {held} {now} {next} {n} {b} {ts} {bench} {bench'} p transitions r t ends noted times =
@@ -180,7 +180,7 @@ at_end {old} {mid} {new} {held} {now} {next} {n} {b} {ts} {bench} {bench'} p tra
           (All-weaker (λ t. t ≤ (behind b p).time) (λ t. t ≤ 274877906944)
           (λ t low. omega (arith, low, within.time, within.offset)) (ts ++ new_times b.time p.block) tally.in_order);
       complete = record {
-        noted = noted ps here.reading.noted here.reading.size (sym here.reading.tally.counted);
+        noted = noted ps here.reading.noted here.reading.size;
         times = times ∙ tally.times_are;
         counted = omega (arith, still, tally.counted);
         limit = omega (arith, tally.offset, within.offset);

@@ -1,5 +1,5 @@
 -- What a bench holds after one block more.
-use Rattle.std.proofs.Common.{◌^◌, ◌≡◌, ◌≤◌, ◌<◌, ◌+◌, ◌*◌, ◌++◌, ℕ, suc, List, [], ◌∷◌, All, length, refl, ap, sym, ◌∙◌, arith, append_assoc, length-append, Option, Some, None, slice_get, if◌then◌else◌}
+use Rattle.std.proofs.Common.{◌^◌, ◌≡◌, ◌≤◌, ◌<◌, ◌+◌, ◌*◌, ◌++◌, ℕ, suc, Bool, true, false, List, [], ◌∷◌, All, length, refl, ap, sym, ◌∙◌, arith, append_assoc, length-append, Option, Some, None, slice_get, if◌then◌else◌}
 use Rattle.std.specs.List.{filter_map, range_with_len, cons_option}
 use Rattle.std.proofs.lemmas.List.{append-nil}
 use Rattle.std.proofs.lemmas.List.Sums.{sum_by-append, sum_by-cons}
@@ -11,6 +11,7 @@ use Rattle.kryo_stream.specs.declared.block.Mark.{Mark}
 use Rattle.kryo_stream.specs.Protocol.{LIMIT}
 use Rattle.kryo_stream.specs.Stream.{is_in_stream, in_stream_bytes, total_bytes, marks, mark_at, mark_of}
 use Rattle.kryo_stream.specs.Bench.{BenchState, IsNoted, HasFullBench, IsSized, IsSizedBlock, stream_step, flux_ends, end_of, overflow_begins, overflow_of}
+use Rattle.kryo_stream.specs.inside.Keeping.{AddsNotes, HasRoomFor}
 
 -- how far a block of this size moves the stream position
 abbrev pub step_of : Block → ℕ → ℕ
@@ -92,12 +93,14 @@ marks-snoc ps p = marks-from (ps ++ p ∷ []) ∙ marks_from-append 0 ps (p ∷ 
 
 -- one block more is noted
 pub IsNoted-step : (ps : List SpelledBlock) (p : SpelledBlock) (b b' : BenchState) → IsNoted ps b → IsSized p
+    → b'.counted ≡ b.counted + stream_step p
     → b'.ends ≡ b.ends ++ end_of (in_stream_bytes ps + stream_step p) p.block
     → b'.overflows ≡ b.overflows ++ overflow_of (in_stream_bytes ps) p.block
     → b'.indexes ≡ b.indexes ++ cons_option (mark_of (length ps) p.block) []
     → IsNoted (ps ++ p ∷ []) b'
-IsNoted-step ps p b b' noted size ends overflows indexes = record {
+IsNoted-step ps p b b' noted size counted ends overflows indexes = record {
   sizes = All-append IsSized ps (p ∷ []) noted.sizes (All-cons IsSized p [] size (λ k d below. absurd (omega arith)));
+  counted = omega (arith, counted, noted.counted, in_stream_bytes-append ps (p ∷ []), in_stream_bytes-cons p []);
   flux = ends ∙ ap (λ l. l ++ end_of (in_stream_bytes ps + stream_step p) p.block) noted.flux
       ∙ ap (λ l. flux_ends 0 ps ++ l) (ends_one (in_stream_bytes ps)) ∙ sym (flux_ends-append 0 ps (p ∷ []));
   overflow = overflows ∙ ap (λ l. l ++ overflow_of (in_stream_bytes ps) p.block) noted.overflow
@@ -111,74 +114,39 @@ IsNoted-step ps p b b' noted size ends overflows indexes = record {
     overflows_one : (n : ℕ) → overflow_of n p.block ≡ overflow_begins (0 + n) (p ∷ [])
     overflows_one n = sym (append-nil (overflow_of (0 + n) p.block) ∙ ap (λ m. overflow_of m p.block) (omega arith))
 
-pub noted_flux : (ps : List SpelledBlock) (p : SpelledBlock) (b b' : BenchState) (ticks : ℕ) → p.block ≡ Flux ticks → IsSized p
-    → b'.ends ≡ b.ends ++ (in_stream_bytes ps + p.bytes) ∷ [] → b'.overflows ≡ b.overflows → b'.indexes ≡ b.indexes
+-- so are the in-stream bytes of a block that is no Index
+pub noted_bytes : (ps : List SpelledBlock) (p : SpelledBlock) (b b' : BenchState) → ((x y z : ℕ) → p.block ≡ Index x y z → ⊥) → IsSized p
+    → AddsNotes (stream_step p) (end_of (b.counted + stream_step p) p.block) (overflow_of b.counted p.block) b b'
     → IsNoted ps b → IsNoted (ps ++ p ∷ []) b'
-noted_flux ps p b b' ticks is size ends overflows indexes noted =
-    IsNoted-step ps p b b' noted size
-    (ends ∙ ap (λ block. b.ends ++ end_of (in_stream_bytes ps + step_of block p.bytes) block) (sym is))
-    (overflows ∙ sym (append-nil b.overflows)
-    ∙ ap (λ block. b.overflows ++ overflow_of (in_stream_bytes ps) block) (sym is))
-    (indexes ∙ sym (append-nil b.indexes)
-    ∙ ap (λ block. b.indexes ++ cons_option (mark_of (length ps) block) []) (sym is))
-
-pub noted_overflow : (ps : List SpelledBlock) (p : SpelledBlock) (b b' : BenchState) → p.block ≡ Overflow → IsSized p
-    → b'.overflows ≡ b.overflows ++ in_stream_bytes ps ∷ [] → b'.ends ≡ b.ends → b'.indexes ≡ b.indexes
-    → IsNoted ps b → IsNoted (ps ++ p ∷ []) b'
-noted_overflow ps p b b' is size overflows ends indexes noted =
-    IsNoted-step ps p b b' noted size
-    (ends ∙ sym (append-nil b.ends)
-    ∙ ap (λ block. b.ends ++ end_of (in_stream_bytes ps + step_of block p.bytes) block) (sym is))
-    (overflows ∙ ap (λ block. b.overflows ++ overflow_of (in_stream_bytes ps) block) (sym is))
-    (indexes ∙ sym (append-nil b.indexes)
-    ∙ ap (λ block. b.indexes ++ cons_option (mark_of (length ps) block) []) (sym is))
+noted_bytes ps p b b' no_index size adds noted =
+    IsNoted-step ps p b b' noted size adds.counted
+    (adds.ends ∙ ap (λ n. b.ends ++ end_of (n + stream_step p) p.block) noted.counted)
+    (adds.overflows ∙ ap (λ n. b.overflows ++ overflow_of n p.block) noted.counted)
+    (adds.indexes ∙ sym (append-nil b.indexes) ∙ ap (λ (m : Option Mark). b.indexes ++ cons_option m []) (sym (no_mark (length ps) p.block no_index)))
+  where
+    no_mark : (n : ℕ) (block : Block) → ((x y z : ℕ) → block ≡ Index x y z → ⊥) → mark_of n block ≡ None
+    no_mark n (Flux _) no_index = refl
+    no_mark n Overflow no_index = refl
+    no_mark n (Nop _) no_index = refl
+    no_mark n (StreamInfo _ _) no_index = refl
+    no_mark n (Index x y z) no_index = absurd (no_index x y z refl)
+    no_mark n (StreamEnd _ _) no_index = refl
+    no_mark n (Info _) no_index = refl
+    no_mark n End no_index = refl
 
 pub noted_index : (ps : List SpelledBlock) (p : SpelledBlock) (b b' : BenchState) (number position sample counter : ℕ)
     → p.block ≡ Index position sample counter → IsSized p → length ps ≡ number
     → b'.indexes ≡ b.indexes ++ record { number = number; position = position; sample = sample } ∷ []
-    → b'.ends ≡ b.ends → b'.overflows ≡ b.overflows → IsNoted ps b → IsNoted (ps ++ p ∷ []) b'
-noted_index ps p b b' number position sample counter is size counted indexes ends overflows noted =
-    IsNoted-step ps p b b' noted size
+    → b'.counted ≡ b.counted → b'.ends ≡ b.ends → b'.overflows ≡ b.overflows → IsNoted ps b → IsNoted (ps ++ p ∷ []) b'
+noted_index ps p b b' number position sample counter is size number_is indexes counted ends overflows noted =
+    let nothing : stream_step p ≡ 0 = ap (λ block. step_of block p.bytes) is in
+    IsNoted-step ps p b b' noted size (omega (arith, counted, nothing))
     (ends ∙ sym (append-nil b.ends)
     ∙ ap (λ block. b.ends ++ end_of (in_stream_bytes ps + step_of block p.bytes) block) (sym is))
     (overflows ∙ sym (append-nil b.overflows)
     ∙ ap (λ block. b.overflows ++ overflow_of (in_stream_bytes ps) block) (sym is))
-    (indexes ∙ ap (λ n. b.indexes ++ cons_option (mark_of n (Index position sample counter)) []) (sym counted)
+    (indexes ∙ ap (λ n. b.indexes ++ cons_option (mark_of n (Index position sample counter)) []) (sym number_is)
     ∙ ap (λ block. b.indexes ++ cons_option (mark_of (length ps) block) []) (sym is))
-
--- a block that is none of the three leaves the bench as it is
-abbrev pub IsOther : Block → Type 0
-IsOther block =
-    ((q : ℕ) → end_of q block ≡ []) × ((q : ℕ) → overflow_of q block ≡ []) × ((n : ℕ) → mark_of n block ≡ None)
-
-pub IsOther-from_not : (block : Block) → ((t : ℕ) → block ≡ Flux t → ⊥) → (block ≡ Overflow → ⊥)
-    → ((x y z : ℕ) → block ≡ Index x y z → ⊥) → IsOther block
-IsOther-from_not (Flux t) flux overflow index = absurd (flux t refl)
-IsOther-from_not Overflow flux overflow index = absurd (overflow refl)
-IsOther-from_not (Nop _) flux overflow index = (λ q. refl, λ q. refl, λ n. refl)
-IsOther-from_not (StreamInfo _ _) flux overflow index = (λ q. refl, λ q. refl, λ n. refl)
-IsOther-from_not (Index x y z) flux overflow index = absurd (index x y z refl)
-IsOther-from_not (StreamEnd _ _) flux overflow index = (λ q. refl, λ q. refl, λ n. refl)
-IsOther-from_not (Info _) flux overflow index = (λ q. refl, λ q. refl, λ n. refl)
-IsOther-from_not End flux overflow index = (λ q. refl, λ q. refl, λ n. refl)
-
-pub noted_other : (ps : List SpelledBlock) (p : SpelledBlock) (b : BenchState) → IsOther p.block → IsSized p
-    → IsNoted ps b → IsNoted (ps ++ p ∷ []) b
-noted_other ps p b other size noted =
-    IsNoted-step ps p b b noted size
-    (sym (append-nil b.ends) ∙ ap (λ l. b.ends ++ l) (sym (other.0 (in_stream_bytes ps + stream_step p))))
-    (sym (append-nil b.overflows) ∙ ap (λ l. b.overflows ++ l) (sym (other.1 (in_stream_bytes ps))))
-    (sym (append-nil b.indexes) ∙ ap (λ m. b.indexes ++ cons_option m []) (sym (other.2 (length ps))))
-
-end_of-length : (block : Block) (bytes q : ℕ) → IsSizedBlock block bytes → length (end_of q block) ≤ bytes
-end_of-length (Flux _) bytes q size = size.0
-end_of-length Overflow bytes q size = omega arith
-end_of-length (Nop _) bytes q size = omega arith
-end_of-length (StreamInfo _ _) bytes q size = omega arith
-end_of-length (Index _ _ _) bytes q size = omega arith
-end_of-length (StreamEnd _ _) bytes q size = omega arith
-end_of-length (Info _) bytes q size = omega arith
-end_of-length End bytes q size = omega arith
 
 overflow_of-length : (block : Block) (bytes q : ℕ) → IsSizedBlock block bytes → length (overflow_of q block) ≤ bytes
 overflow_of-length (Flux _) bytes q size = omega arith
@@ -204,16 +172,14 @@ mark_of-length End bytes n rest size = omega arith
 total_bytes-cons : (p : SpelledBlock) (ps : List SpelledBlock) → total_bytes (p ∷ ps) ≡ p.bytes + total_bytes ps
 total_bytes-cons p ps = sum_by-cons (λ p. p.bytes) p ps
 
-pub flux_ends-length : (q : ℕ) (ps : List SpelledBlock) → All IsSized ps → length (flux_ends q ps) ≤ total_bytes ps
-flux_ends-length q [] sizes = omega arith
-flux_ends-length q (p ∷ ps) sizes =
-    omega (
-      arith,
-      length-append (end_of (q + stream_step p) p.block) (flux_ends (q + stream_step p) ps),
-      end_of-length p.block p.bytes (q + stream_step p) (All-head IsSized p ps sizes),
-      flux_ends-length (q + stream_step p) ps (All-tail IsSized p ps sizes),
-      total_bytes-cons p ps,
-    )
+pub in_stream-few : (ps : List SpelledBlock) → in_stream_bytes ps ≤ total_bytes ps
+in_stream-few [] = omega arith
+in_stream-few (p ∷ ps) =
+    omega (arith, in_stream_bytes-cons p ps, total_bytes-cons p ps, few (is_in_stream p.block) p.bytes, in_stream-few ps)
+  where
+    few : (in_stream : Bool) (bytes : ℕ) → (if in_stream then bytes else 0) ≤ bytes
+    few true bytes = omega arith
+    few false bytes = omega arith
 
 pub overflow_begins-length : (q : ℕ) (ps : List SpelledBlock) → All IsSized ps → length (overflow_begins q ps) ≤ total_bytes ps
 overflow_begins-length q [] sizes = omega arith
@@ -240,10 +206,20 @@ pub marks-length : (ps : List SpelledBlock) → All IsSized ps → 16 * length (
 marks-length ps sizes = rw (marks-from ps) (marks_from-length 0 ps sizes)
 
 -- room for one block more
-pub spare_for_end : (ps : List SpelledBlock) (b : BenchState) (bytes : ℕ) → HasFullBench b → IsNoted ps b
-    → total_bytes ps + bytes ≤ LIMIT → 1 ≤ bytes → 0 < b.spare_ends
-spare_for_end ps b bytes full noted fits some =
-    omega (arith, full.for_ends, flux_ends-length 0 ps noted.sizes, ap length noted.flux)
+pub some_bytes : (block : Block) (bytes : ℕ) → IsSizedBlock block bytes → 1 ≤ bytes
+some_bytes (Flux _) bytes size = size.0
+some_bytes Overflow bytes size = omega (arith, size)
+some_bytes (Nop _) bytes size = size
+some_bytes (StreamInfo _ _) bytes size = size
+some_bytes (Index _ _ _) bytes size = omega (arith, size.0)
+some_bytes (StreamEnd _ _) bytes size = size
+some_bytes (Info _) bytes size = size
+some_bytes End bytes size = size
+
+pub room_for_bytes : (ps : List SpelledBlock) (b : BenchState) (bytes : ℕ) → HasFullBench b → IsNoted ps b
+    → total_bytes ps + bytes ≤ LIMIT → HasRoomFor bytes b
+room_for_bytes ps b bytes full noted fits =
+    omega (arith, full.for_ends, noted.counted, in_stream-few ps, fits)
 
 pub spare_for_overflow : (ps : List SpelledBlock) (b : BenchState) (bytes : ℕ) → HasFullBench b → IsNoted ps b
     → total_bytes ps + bytes ≤ LIMIT → 1 ≤ bytes → 0 < b.spare_overflows

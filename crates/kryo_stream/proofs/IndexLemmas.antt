@@ -14,7 +14,7 @@ use Rattle.kryo_stream.specs.Stream.{in_stream_bytes, total_bytes, ticks, block_
 use Rattle.kryo_stream.specs.Bench.{BenchState, IsSized, IsSizedBlock, stream_step, flux_ends, end_of, overflow_begins, overflow_of}
 use Rattle.kryo_stream.specs.inside.Bench.{IsComplete, IsSearchable, base_time}
 use Rattle.kryo_stream.specs.Sequence.{IsHeld}
-use Rattle.kryo_stream.proofs.BenchLemmas.{step_of, in_stream_bytes-cons, in_stream_bytes-append, flux_ends-append, overflow_begins-append, overflow_begins-length, slice_get-seam}
+use Rattle.kryo_stream.proofs.BenchLemmas.{step_of, in_stream_bytes-cons, in_stream_bytes-append, flux_ends-append, overflow_begins-append, in_stream-few, overflow_begins-length, slice_get-seam}
 use Rattle.kryo_stream.proofs.FindLemmas.{find-range, FindsFirst, count_by-append, count_by-all, count_by-none, count_by-same, count_by-between}
 
 pub ticks-append : (ps qs : List SpelledBlock) → ticks (ps ++ qs) ≡ ticks ps + ticks qs
@@ -613,6 +613,7 @@ IsSearchable-from_complete ps b transitions total end c =
       overflow_order = subst IsNonDecreasing (sym noted.overflow) (overflow_begins-order 0 ps noted.sizes);
       matched = ap length c.times ∙ (Told-all ps noted.sizes).matched ∙ sym (ap length noted.flux);
       few = omega (arith, ap length noted.overflow, overflow_begins-length 0 ps noted.sizes, c.limit);
+      near = omega (arith, noted.counted, in_stream-few ps, c.limit);
       early = subst (All (λ time. time < 2 ^ 48)) (sym (c.times ∙ times-from ps))
           (λ k d below. omega (arith, times_from-within 0 ps k d below, ticks-sized ps noted.sizes, c.limit));
     }

@@ -1,7 +1,8 @@
 -- What is kept of the transitions that some bytes begin with, as one row or one transition more comes.
-use Rattle.std.proofs.Common.{◌≡◌, ℕ, zero, suc, ◌+◌, ◌-◌, ◌<◌, ◌≤◌, ◌++◌, false, List, [], ◌∷◌, All, length, take, drop, refl, sym, ap, ◌∙◌, arith, length-append, length-drop, length-take, append-nil, subst, Ok}
+use Rattle.std.proofs.Common.{◌≡◌, ℕ, suc, ◌+◌, ◌-◌, ◌<◌, ◌≤◌, ◌++◌, false, List, [], ◌∷◌, All, length, take, drop, refl, sym, ap, ◌∙◌, arith, length-append, length-drop, length-take, append-nil, subst, Ok}
 use Rattle.std.specs.List.{range_with_len, sum}
 use Rattle.std.proofs.lemmas.List.{take-append-le, drop-append-le, drop-drop, take_rest, take-append-drop}
+use Rattle.std.proofs.lemmas.List.FromFn.{length-range_with_len}
 use Rattle.index_turns.specs.Track.{TrackState, times_after}
 use Rattle.kryo_stream.specs.declared.before.Before.{Before}
 use Rattle.kryo_stream.specs.declared.block.Block.TheVariants.{Flux}
@@ -9,7 +10,7 @@ use Rattle.kryo_stream.specs.declared.block.SpelledBlock.{SpelledBlock}
 use Rattle.kryo_stream.specs.declared.front.LongFlux.{LongFlux}
 use Rattle.kryo_stream.specs.Bench.{BenchState, KeepsNotes}
 use Rattle.kryo_stream.specs.inside.Blocks.{IsShortFlux}
-use Rattle.kryo_stream.specs.inside.Keeping.{AddsTimes, AddsEnds, IsLongFlux, KeepsFlux, past}
+use Rattle.kryo_stream.specs.inside.Keeping.{AddsTimes, AddsEnds, HasRoomFor, IsLongFlux, KeepsFlux, past}
 use Rattle.kryo_stream.specs.Pieces.{piece_at}
 use Rattle.kryo_stream.specs.inside.Progress.{IsReading, ReadsOn}
 use Rattle.kryo_stream.specs.Protocol.{LIMIT}
@@ -23,12 +24,8 @@ length-times_after : (start : ℕ) (intervals : List ℕ) → length (times_afte
 length-times_after start [] = refl
 length-times_after start (interval ∷ intervals) = ap suc (length-times_after (start + interval) intervals)
 
-length-ends : (a n : ℕ) → length (range_with_len a n) ≡ n
-length-ends a zero = refl
-length-ends a (suc n) = ap suc (length-ends (a + 1) n)
-
 -- nothing is kept yet
-pub keeps_start : (bytes : List ℕ) (b : Before) (t : TrackState) (bench : BenchState) → length bytes ≤ t.spare_times → length bytes ≤ bench.spare_ends
+pub keeps_start : (bytes : List ℕ) (b : Before) (t : TrackState) (bench : BenchState) → length bytes ≤ t.spare_times → HasRoomFor (length bytes) bench
     → KeepsFlux bytes b t t bench bench 0 b.time
 keeps_start bytes b t bench room bench_room = record {
   inside = omega arith;
@@ -45,7 +42,7 @@ keeps_start bytes b t bench room bench_room = record {
 -- so much more is kept, if it is read
 keeps_more : (bytes : List ℕ) (b : Before) (old mid new : TrackState) (bench bmid bnew : BenchState) (place time count size time' : ℕ)
     (added ends : List ℕ) → KeepsFlux bytes b old mid bench bmid place time → count ≤ size → place + size ≤ length bytes
-    → length added ≡ count → length ends ≡ count → AddsTimes count added mid new → AddsEnds count ends bmid bnew
+    → length added ≡ count → length ends ≡ count → AddsTimes count added mid new → AddsEnds size count ends bmid bnew
     → ((rest : List ℕ) → ReadsOn count (drop place bytes ++ rest) (drop (place + size) bytes ++ rest) (past b place time) (past b (place + size) time')
     mid.times new.times bmid bnew)
     → KeepsFlux bytes b old new bench bnew (place + size) time'
@@ -68,7 +65,7 @@ keeps_more bytes b old mid new bench bmid bnew place time count size time' added
         for_indexes = omega (arith, ap length adds.indexes, adds.spare_indexes);
       });
       spare = omega (arith, kept.spare, times.spare_times, few);
-      spare_ends = omega (arith, kept.spare_ends, adds.spare_ends, few);
+      spare_ends = omega (arith, kept.spare_ends, adds.spare_ends, adds.counted, more_ends);
     }
 
 -- what is left of the bytes
@@ -102,14 +99,14 @@ pub keeps_row : {bytes : List ℕ} {b : Before} {old mid new : TrackState} {benc
     → KeepsFlux bytes b old mid bench bmid place time → b.ended ≡ false → b.offset + length bytes ≤ LIMIT
     → count ≤ length (part bytes place) → All IsShortFlux (take count (part bytes place))
     → AddsTimes count (times_after time (take count (part bytes place))) mid new
-    → AddsEnds count (range_with_len (b.counted + place + 1) count) bmid bnew
+    → AddsEnds count count (range_with_len (bmid.counted + 1) count) bmid bnew
     → place' ≡ place + count → time' ≡ time + sum (take count (part bytes place))
     → KeepsFlux bytes b old new bench bnew place' time'
 keeps_row {bytes} {b} {old} {mid} {new} {bench} {bmid} {bnew} {place} {time} {place'} {time'} count kept ended limit few short added more_ends place_is time_is =
     subst (λ p. KeepsFlux bytes b old new bench bnew p time') (ap (λ (n : ℕ). place + n) size ∙ sym place_is)
     (keeps_more bytes b old mid new bench bmid bnew place time (length row) (length row) time' (times_after time row)
-    (range_with_len (b.counted + place + 1) (length row)) kept (omega arith) inside (length-times_after time row)
-    (length-ends (b.counted + place + 1) (length row)) times ends reads)
+    (range_with_len (bmid.counted + 1) (length row)) kept (omega arith) inside (length-times_after time row)
+    (length-range_with_len (bmid.counted + 1) (length row)) times ends reads)
   where
     row : List ℕ
     row = take count (part bytes place)
@@ -120,8 +117,8 @@ keeps_row {bytes} {b} {old} {mid} {new} {bench} {bmid} {bnew} {place} {time} {pl
     times : AddsTimes (length row) (times_after time row) mid new
     times = subst (λ (n : ℕ). AddsTimes n (times_after time row) mid new) (sym size) added
 
-    ends : AddsEnds (length row) (range_with_len (b.counted + place + 1) (length row)) bmid bnew
-    ends = subst (λ (n : ℕ). AddsEnds n (range_with_len (b.counted + place + 1) n) bmid bnew) (sym size) more_ends
+    ends : AddsEnds (length row) (length row) (range_with_len (bmid.counted + 1) (length row)) bmid bnew
+    ends = subst (λ (n : ℕ). AddsEnds n n (range_with_len (bmid.counted + 1) n) bmid bnew) (sym size) more_ends
 
     inside : place + length row ≤ length bytes
     inside = omega (arith, size, (row_inside bytes place count kept.inside few).1)
@@ -139,7 +136,7 @@ keeps_row {bytes} {b} {old} {mid} {new} {bench} {bmid} {bnew} {place} {time} {pl
         (record { offset = (b.offset + place) + length row; counted = (b.counted + place) + length row; ended = b.ended; time = time' }) new.times bnew =
         run_of_front x n (length row) held (drop (place + length row) bytes ++ rest) (past b place time) mid.times new.times bmid bnew time'
         (omega (arith, within, length-append (drop place bytes) rest)) (subst (All IsShortFlux) front short) (λ _. ended) (omega (arith, limit, inside))
-        (record { ends = ends.ends; overflows = ends.overflows; indexes = ends.indexes })
+        (record { counted = ends.counted; ends = ends.ends; overflows = ends.overflows ∙ sym (append-nil bmid.overflows); indexes = ends.indexes })
         (times.times ∙ ap (λ l. mid.times ++ times_after time l) front) (time_is ∙ ap (λ l. time + sum l) front)
         (rest_of bytes rest place (length row) inside) r in
         same_reading passed refl
@@ -150,11 +147,11 @@ keeps_row {bytes} {b} {old} {mid} {new} {bench} {bmid} {bnew} {place} {time} {pl
 pub keeps_long : {bytes : List ℕ} {b : Before} {old mid new : TrackState} {bench bmid bnew : BenchState} {place time place' time' : ℕ} (long : LongFlux)
     → KeepsFlux bytes b old mid bench bmid place time → b.ended ≡ false → b.offset + length bytes ≤ LIMIT
     → IsLongFlux (part bytes place) long → 1 ≤ long.bytes → long.bytes ≤ length (part bytes place) → long.ticks < 65536
-    → AddsTimes 1 ((time + long.ticks) ∷ []) mid new → AddsEnds 1 ((b.counted + place + long.bytes) ∷ []) bmid bnew
+    → AddsTimes 1 ((time + long.ticks) ∷ []) mid new → AddsEnds long.bytes 1 ((bmid.counted + long.bytes) ∷ []) bmid bnew
     → place' ≡ place + long.bytes → time' ≡ time + long.ticks → KeepsFlux bytes b old new bench bnew place' time'
 keeps_long {bytes} {b} {old} {mid} {new} {bench} {bmid} {bnew} {place} {time} {place'} {time'} long kept ended limit is some few sized times ends place_is time_is =
     subst (λ p. KeepsFlux bytes b old new bench bnew p time') (sym place_is)
-    (keeps_more bytes b old mid new bench bmid bnew place time 1 long.bytes time' ((time + long.ticks) ∷ []) ((b.counted + place + long.bytes) ∷ [])
+    (keeps_more bytes b old mid new bench bmid bnew place time 1 long.bytes time' ((time + long.ticks) ∷ []) ((bmid.counted + long.bytes) ∷ [])
     kept some inside (omega arith) (omega arith) times ends reads)
   where
     inside : place + long.bytes ≤ length bytes
@@ -179,14 +176,14 @@ keeps_long {bytes} {b} {old} {mid} {new} {bench} {bmid} {bnew} {place} {time} {p
         let next : past b (place + long.bytes) time' ≡ behind c p =
         before_same (past b (place + long.bytes) time') (behind c p) (omega arith) (omega arith) (sym (or_false b.ended ended)) time_is in
         reads_block held (drop (place + long.bytes) bytes ++ rest) c (past b (place + long.bytes) time') mid.times new.times bmid bnew p
-        read refl (some, sized) (rest_of bytes rest place long.bytes inside) next within times.times ends.ends
-        (ends.overflows ∙ sym (append-nil bmid.overflows)) ends.indexes x n r
+        read refl (some, sized) (rest_of bytes rest place long.bytes inside) next within times.times
+        (record { counted = ends.counted; ends = ends.ends; overflows = ends.overflows ∙ sym (append-nil bmid.overflows); indexes = ends.indexes }) x n r
 
 -- room that is made changes no reading
 pub reading_of_notes : {x : List ℕ} {n : ℕ} {rest : List ℕ} {b : Before} {ts us : List ℕ} {bench bench' : BenchState}
     → IsReading x n rest b ts bench → us ≡ ts → KeepsNotes bench bench' → IsReading x n rest b us bench'
 reading_of_notes {x} {n} {rest} {b} {ts} {us} {bench} {bench'} r times notes =
-    same_reading (IsReading-bench r notes.ends notes.overflows notes.indexes) refl refl (sym times)
+    same_reading (IsReading-bench r notes.counted notes.ends notes.overflows notes.indexes) refl refl (sym times)
 
 -- the bytes at hand and a front of them
 pub reading_of_front : {x : List ℕ} {n : ℕ} {held : List ℕ} {b : Before} {ts us : List ℕ} {bench bench' : BenchState} (reach : ℕ)

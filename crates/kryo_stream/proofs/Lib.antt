@@ -1,6 +1,7 @@
 pub mod Answering
 pub mod BenchLemmas
 pub mod BlockReadings
+pub mod Ends
 pub mod FindLemmas
 pub mod Growing
 pub mod HeldReading

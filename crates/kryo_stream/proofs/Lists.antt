@@ -1,6 +1,5 @@
 -- Lists that are gathered place by place, as one more item comes.
 use Rattle.std.proofs.Common.{◌≡◌, ℕ, zero, suc, ◌+◌, ◌<◌, ◌≤◌, ◌++◌, List, [], ◌∷◌, length, take, sum_by, refl, sym, ap, ◌∙◌, arith, length-append, add-zero, Option, Some}
-use Rattle.std.proofs.Math.Seq.{take-append-add}
 use Rattle.std.proofs.lemmas.List.{take-append-le}
 use Rattle.std.proofs.lemmas.List.Elements.{filter_map-append}
 use Rattle.std.proofs.lemmas.List.Sums.{sum_by-append}
@@ -15,17 +14,6 @@ range_with_len-push a zero = ap (λ k. k ∷ []) (sym (add-zero a))
 range_with_len-push a (suc n) =
     let e : (a + 1) + n ≡ a + suc n = omega arith in
     ap (λ xs. a ∷ xs) (range_with_len-push (a + 1) n ∙ ap (λ k. range_with_len (a + 1) n ++ k ∷ []) e)
-
--- the first of so many numbers, where all were appended
-take-range : (a n k : ℕ) → k ≤ n → take k (range_with_len a n) ≡ range_with_len a k
-take-range a n zero few = refl
-take-range a zero (suc k) few = absurd (omega arith)
-take-range a (suc n) (suc k) few = ap (λ ns. a ∷ ns) (take-range (a + 1) n k (omega arith))
-
-pub range-front : (xs : List ℕ) (a n k len : ℕ) → k ≤ n → len ≡ length xs + k → take len (xs ++ range_with_len a n) ≡ xs ++ range_with_len a k
-range-front xs a n k len few is =
-    ap (λ size. take size (xs ++ range_with_len a n)) is ∙ take-append-add xs (range_with_len a n) k
-    ∙ ap (λ front. xs ++ front) (take-range a n k few)
 
 filter_map-same : {Y : Type 0} (f g : ℕ → Option Y) (a n : ℕ) → ((j : ℕ) → a ≤ j → j < a + n → f j ≡ g j)
     → filter_map f (range_with_len a n) ≡ filter_map g (range_with_len a n)

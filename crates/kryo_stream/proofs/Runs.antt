@@ -7,17 +7,18 @@ use Rattle.std.proofs.lemmas.List.Elements.{All-head, All-tail}
 use Rattle.std.proofs.lemmas.List.Sums.{sum_by-cons}
 use Rattle.index_turns.specs.Track.{TrackState, KeepsRoom, times_after}
 use Rattle.kryo_stream.specs.declared.before.Before.{Before}
-use Rattle.kryo_stream.specs.declared.block.Block.TheVariants.{Flux}
+use Rattle.kryo_stream.specs.declared.block.Block.TheVariants.{Flux, Index}
 use Rattle.kryo_stream.specs.declared.block.SpelledBlock.{SpelledBlock}
 use Rattle.kryo_stream.specs.Bench.{BenchState, HasFullBench, IsNoted, KeepsBenchRoom}
 use Rattle.kryo_stream.specs.inside.Blocks.{IsShortFlux}
+use Rattle.kryo_stream.specs.inside.Keeping.{AddsNotes}
 use Rattle.kryo_stream.specs.Outcome.{HasFullRoom}
 use Rattle.kryo_stream.specs.Pieces.{piece, piece_at, piece_from, unless_fault}
 use Rattle.kryo_stream.specs.inside.Progress.{IsReading, ReadsOn}
 use Rattle.kryo_stream.specs.Protocol.{LIMIT}
 use Rattle.kryo_stream.specs.Stream.{pieces}
 use Rattle.kryo_stream.specs.inside.Tally.{behind, IsWithin}
-use Rattle.kryo_stream.proofs.BenchLemmas.{flux_ends-length, overflow_begins-length, noted_flux}
+use Rattle.kryo_stream.proofs.BenchLemmas.{overflow_begins-length, noted_bytes}
 use Rattle.kryo_stream.proofs.Progressing.{IsReading-push}
 use Rattle.kryo_stream.proofs.Readings.{has-enough}
 
@@ -60,8 +61,9 @@ same_reading {x} {n} {n'} {rest} {b} {b'} {ts} {ts'} {bench} r number before tim
 
 -- the same reading, with a bench that holds the same
 pub IsReading-bench : {x : List ℕ} {n : ℕ} {rest : List ℕ} {b : Before} {ts : List ℕ} {bench bench' : BenchState} → IsReading x n rest b ts bench
-    → bench'.ends ≡ bench.ends → bench'.overflows ≡ bench.overflows → bench'.indexes ≡ bench.indexes → IsReading x n rest b ts bench'
-IsReading-bench r ends overflows indexes = record {
+    → bench'.counted ≡ bench.counted → bench'.ends ≡ bench.ends → bench'.overflows ≡ bench.overflows → bench'.indexes ≡ bench.indexes
+    → IsReading x n rest b ts bench'
+IsReading-bench r counted ends overflows indexes = record {
   place = r.place;
   inside = r.inside;
   count = r.count;
@@ -70,6 +72,7 @@ IsReading-bench r ends overflows indexes = record {
   tally = r.tally;
   noted = record {
     sizes = r.noted.sizes;
+    counted = counted ∙ r.noted.counted;
     flux = ends ∙ r.noted.flux;
     overflow = overflows ∙ r.noted.overflow;
     index = indexes ∙ r.noted.index;
@@ -77,17 +80,15 @@ IsReading-bench r ends overflows indexes = record {
 }
 
 -- a bench holds a run more
-pub record HoldsRun (bench bench' : BenchState) (position count : ℕ) : Type 0 where
-  pub ends : bench'.ends ≡ bench.ends ++ range_with_len (position + 1) count
-  pub overflows : bench'.overflows ≡ bench.overflows
-  pub indexes : bench'.indexes ≡ bench.indexes
+abbrev pub HoldsRun : ℕ → BenchState → BenchState → Type 0
+HoldsRun count bench bench' = AddsNotes count (range_with_len (bench.counted + 1) count) [] bench bench'
 
 pub IsReading-run : (x : List ℕ) (n : ℕ) (run rest : List ℕ) (b : Before) (ts : List ℕ) (bench bench' : BenchState)
     → All IsShortFlux run → (0 < length run → b.ended ≡ false) → b.offset + length run ≤ LIMIT
-    → HoldsRun bench bench' b.counted (length run) → IsReading x n (run ++ rest) b ts bench
+    → HoldsRun (length run) bench bench' → IsReading x n (run ++ rest) b ts bench
     → IsReading x (n + length run) rest (behind_run b run) (ts ++ times_after b.time run) bench'
 IsReading-run x n [] rest b ts bench bench' short going room holds r =
-    let kept = IsReading-bench r (holds.ends ∙ append-nil bench.ends) holds.overflows holds.indexes in
+    let kept : IsReading x n ([] ++ rest) b ts bench' = IsReading-bench r (omega (arith, holds.counted)) (holds.ends ∙ append-nil bench.ends) (holds.overflows ∙ append-nil bench.overflows) holds.indexes in
     same_reading kept (omega arith)
     (before_same b (behind_run b []) (omega arith) (omega arith) refl (omega arith)) (sym (append-nil ts))
 IsReading-run x n (byte ∷ run) rest b ts bench bench' short going room holds r =
@@ -96,7 +97,7 @@ IsReading-run x n (byte ∷ run) rest b ts bench bench' short going room holds r
     let high : byte < 256 = flux.1 in
     let p : SpelledBlock = one_byte byte in
     let next : Before = behind b p in
-    let step : BenchState = record bench { ends = bench.ends ++ (b.counted + 1) ∷ [] } in
+    let step : BenchState = record bench { counted = bench.counted + 1; ends = bench.ends ++ (bench.counted + 1) ∷ [] } in
     let reads = piece_at-one_byte b byte (run ++ rest) flux.0 ended (omega (arith, room)) in
     let within : IsWithin next = record {
       offset = omega (arith, room);
@@ -104,11 +105,13 @@ IsReading-run x n (byte ∷ run) rest b ts bench bench' short going room holds r
       time = omega (arith, r.tally.within.time, high);
     } in
     let noted : IsNoted (pieces x n ++ p ∷ []) step =
-    noted_flux (pieces x n) p bench step byte refl (omega arith, omega (arith, high)) (ap (λ k. bench.ends ++ (k + 1) ∷ []) r.tally.counted) refl refl r.noted in
+    noted_bytes (pieces x n) p bench step (λ x y z same. no_index byte x y z same) (omega arith, omega (arith, high))
+    (record { counted = refl; ends = refl; overflows = sym (append-nil bench.overflows); indexes = refl }) r.noted in
     let read : IsReading x (suc n) (run ++ rest) next (ts ++ (b.time + byte) ∷ []) step =
     IsReading-push x n ((byte ∷ run) ++ rest) b ts bench step p r reads refl within noted in
-    let more : HoldsRun step bench' next.counted (length run) = record {
-      ends = holds.ends ∙ sym (append_assoc bench.ends ((b.counted + 1) ∷ []) (range_with_len (b.counted + 1 + 1) (length run)));
+    let more : HoldsRun (length run) step bench' = record {
+      counted = omega (arith, holds.counted);
+      ends = holds.ends ∙ sym (append_assoc bench.ends ((bench.counted + 1) ∷ []) (range_with_len (bench.counted + 1 + 1) (length run)));
       overflows = holds.overflows;
       indexes = holds.indexes;
     } in
@@ -119,6 +122,9 @@ IsReading-run x n (byte ∷ run) rest b ts bench bench' short going room holds r
     (before_same (behind_run next run) (behind_run b (byte ∷ run)) (omega arith) (omega arith) (or_false b.ended ended)
     (omega (arith, sum_by-cons (λ x. x) byte run)))
     (append_assoc ts ((b.time + byte) ∷ []) (times_after (b.time + byte) run))
+  where
+    no_index : (t x y z : ℕ) → Flux t ≡ Index x y z → ⊥
+    no_index t x y z same = cc
 
 -- nothing is passed over
 pub reads_none : (rest : List ℕ) (b : Before) (ts : List ℕ) (bench : BenchState) → ReadsOn 0 rest rest b b ts ts bench bench
@@ -133,7 +139,7 @@ reads_on_both k m total first second is x n r = same_reading (second x (n + k) (
 -- the bytes at hand begin with a run, which is passed over
 pub run_of_front : (x : List ℕ) (n count : ℕ) (held held' : List ℕ) (b : Before) (ts ts' : List ℕ) (bench bench' : BenchState) (end : ℕ)
     → count ≤ length held → All IsShortFlux (take count held) → (0 < count → b.ended ≡ false) → b.offset + count ≤ LIMIT
-    → HoldsRun bench bench' b.counted count → ts' ≡ ts ++ times_after b.time (take count held) → end ≡ b.time + sum (take count held)
+    → HoldsRun count bench bench' → ts' ≡ ts ++ times_after b.time (take count held) → end ≡ b.time + sum (take count held)
     → held' ≡ drop count held → IsReading x n held b ts bench
     → IsReading x (n + count) held' (record { offset = b.offset + count; counted = b.counted + count; ended = b.ended; time = end }) ts' bench'
 run_of_front x n count held held' b ts ts' bench bench' end inside short going room holds times end_is rest r =
@@ -142,7 +148,7 @@ run_of_front x n count held held' b ts ts' bench bench' end inside short going r
     let whole : run ++ drop count held ≡ held = take-append-drop count held in
     let passed : IsReading x (n + length run) (drop count held) (behind_run b run) (ts ++ times_after b.time run) bench' =
     IsReading-run x n run (drop count held) b ts bench bench' short (λ some. going (omega (arith, some, size))) (omega (arith, room, size))
-    (subst (HoldsRun bench bench' b.counted) (sym size) holds)
+    (subst (λ k. HoldsRun k bench bench') (sym size) holds)
     (subst (λ bytes. IsReading x n bytes b ts bench) (sym whole) r) in
     subst (λ bytes. IsReading x (n + count) bytes (record { offset = b.offset + count; counted = b.counted + count; ended = b.ended; time = end }) ts' bench') (sym rest)
     (same_reading passed (omega (arith, size))
@@ -154,7 +160,7 @@ pub record IsRoomy (b : Before) (ts : List ℕ) (bench : BenchState) : Type 0 wh
   pub within : IsWithin b
   pub in_order : All (λ time. time ≤ b.time) ts
   pub few_times : length ts ≤ b.offset
-  pub few_ends : length bench.ends ≤ b.offset
+  pub counted : bench.counted ≡ b.counted
   pub few_overflows : length bench.overflows ≤ b.offset
 
 pub is_roomy : (x : List ℕ) (n : ℕ) (rest : List ℕ) (b : Before) (ts : List ℕ) (bench : BenchState) → IsReading x n rest b ts bench → IsRoomy b ts bench
@@ -162,7 +168,7 @@ is_roomy x n rest b ts bench r = record {
   within = r.tally.within;
   in_order = r.tally.in_order;
   few_times = r.tally.few_times;
-  few_ends = (let few = flux_ends-length 0 (pieces x n) r.noted.sizes in omega (arith, few, ap length r.noted.flux, r.tally.offset));
+  counted = r.noted.counted ∙ sym r.tally.counted;
   few_overflows = (let few = overflow_begins-length 0 (pieces x n) r.noted.sizes in omega (arith, few, ap length r.noted.overflow, r.tally.offset));
 }
 

@@ -1,21 +1,34 @@
 -- What resolving the index positions of a stream needs of its blocks.
-use Rattle.std.specs.Prelude.{◌≡◌, ◌≤◌, ◌<◌, ℕ, ◌+◌, ◌^◌, ◌++◌, List, [], ◌∷◌, All}
+use Rattle.std.specs.Prelude.{◌≡◌, ◌≤◌, ◌<◌, ℕ, ◌+◌, ◌-◌, ◌^◌, ◌++◌, List, [], ◌∷◌, All}
 use Rattle.std.specs.Prelude.{length, if◌then◌else◌}
+use Rattle.std.specs.List.{range_with_len}
 use Rattle.kryo_stream.specs.declared.block.Block.{Block}
 use Rattle.kryo_stream.specs.declared.block.Block.TheVariants.{Flux, Overflow, Nop, StreamInfo}
 use Rattle.kryo_stream.specs.declared.block.Block.TheVariants.{Index, StreamEnd, Info, End}
 use Rattle.kryo_stream.specs.declared.block.SpelledBlock.{SpelledBlock}
 use Rattle.kryo_stream.specs.declared.block.Mark.{Mark}
 use Rattle.kryo_stream.specs.Protocol.{LIMIT}
-use Rattle.kryo_stream.specs.Stream.{is_in_stream, marks}
+use Rattle.kryo_stream.specs.Stream.{in_stream_bytes, is_in_stream, marks}
 
 -- the most Index blocks of one stream: each takes 16 bytes
 abbrev pub MOST_MARKS : ℕ
 MOST_MARKS = 262144
 
--- the stream positions after the Flux blocks, the stream positions of the Overflow blocks, the
--- Index blocks, and how many more of each fit without taking memory
+-- the positions from low to high are all but these
+abbrev pub AreSkipped : ℕ → List ℕ → ℕ → Type 0
+AreSkipped low [] high = low ≤ high
+AreSkipped low (s ∷ ss) high = (low < s) × AreSkipped s ss high
+
+abbrev pub ends_between : ℕ → List ℕ → ℕ → List ℕ
+ends_between low [] high = range_with_len (low + 1) (high - low)
+ends_between low (s ∷ ss) high =
+    range_with_len (low + 1) (s - (low + 1)) ++ ends_between s ss high
+
+-- the stream position after all blocks, the stream positions after the Flux blocks, the stream
+-- positions of the Overflow blocks, the Index blocks, and how many more of each fit without taking
+-- memory
 pub record BenchState : Type 0 where
+  pub counted : ℕ
   pub ends : List ℕ
   pub overflows : List ℕ
   pub indexes : List Mark
@@ -31,6 +44,7 @@ pub record HasFullBench (b : BenchState) : Type 0 where
 
 -- what was noted stays as it was
 pub record KeepsNotes (old new : BenchState) : Type 0 where
+  pub counted : new.counted ≡ old.counted
   pub ends : new.ends ≡ old.ends
   pub overflows : new.overflows ≡ old.overflows
   pub indexes : new.indexes ≡ old.indexes
@@ -84,6 +98,7 @@ IsSized p = IsSizedBlock p.block p.bytes
 -- all blocks so far are noted
 pub record IsNoted (ps : List SpelledBlock) (b : BenchState) : Type 0 where
   pub sizes : All IsSized ps
+  pub counted : b.counted ≡ in_stream_bytes ps
   pub flux : b.ends ≡ flux_ends 0 ps
   pub overflow : b.overflows ≡ overflow_begins 0 ps
   pub index : b.indexes ≡ marks ps

@@ -1,17 +1,16 @@
 ghost use Rattle.std.specs.Prelude.{◌≡◌, ◌≤◌, ◌<◌, ◌+◌, ◌-◌, ◌^◌, ◌++◌, ℕ, List, [], ◌∷◌, length, All, OnOk, OnErr};
-ghost use Rattle.std.specs.Prelude.{IfErr, IsOk, count_by, get_or, nat_lt, nat_le, slice_index, vec_len};
+ghost use Rattle.std.specs.Prelude.{IfErr, IsOk, count_by, get_or, nat_lt, nat_le, slice_index};
 ghost use Rattle.std.specs.List.{range_with_len};
 ghost use Rattle.std.specs.List.Sorted.{IsNonDecreasing};
-ghost use Rattle.std.specs.Vec.{vec_capacity};
 ghost use Rattle.kryo_stream.specs.Protocol.{LIMIT};
-ghost use Rattle.kryo_stream.specs.Stream.{in_stream_bytes, total_bytes, turn_fault, indexes_of};
+ghost use Rattle.kryo_stream.specs.Stream.{total_bytes, turn_fault, indexes_of};
 ghost use Rattle.index_turns.specs.Track.{KeepsRoom};
-ghost use Rattle.kryo_stream.specs.inside.Keeping.{AddsEnds};
-ghost use Rattle.kryo_stream.specs.Bench.{HasFullBench, KeepsBenchRoom, KeepsNotes, IsNoted, IsSized};
+ghost use Rattle.kryo_stream.specs.inside.Keeping.{AddsEnds, AddsNotes, HasRoomFor};
+ghost use Rattle.kryo_stream.specs.Bench.{AreSkipped, HasFullBench, KeepsBenchRoom, KeepsNotes, IsNoted, IsSized};
 ghost use Rattle.kryo_stream.specs.inside.Bench.{IsComplete};
 ghost use Rattle.kryo_stream.specs.Bench.{end_of};
 ghost use Rattle.kryo_stream.specs.inside.Bench.{IsSearchable, TurnCause, PlaceCause, base_time, mark_time};
-ghost use Rattle.kryo_stream.specs.Bench.{overflow_of};
+ghost use Rattle.kryo_stream.specs.Bench.{overflow_of, stream_step};
 
 use crate::block::{Block, Mark, SpelledBlock};
 use crate::fault::{StreamFault, TrackFault};
@@ -33,30 +32,39 @@ const OVERFLOW_TICKS: u64 = 65536;
 /// What is kept of the blocks of a stream until its end, where the positions of its Index blocks are
 /// looked up. An Index may name any place of the stream, before or after its own.
 ///
-/// It holds the stream positions of the transitions' ends and of the overflows, and no times: those of the
-/// transitions are in the track, and an overflow is 65536 ticks. With its full room that is 35 MiB.
+/// Nearly each position of a track is the end of a transition of one byte. So it holds how far the stream is noted, and
+/// the positions at which no transition ends: those within longer transitions, and those behind other blocks. It holds
+/// the positions of the overflows beside them, and no times: those of the transitions are in the track, and an overflow
+/// is 65536 ticks. With its full room that is 35 MiB.
 #[derive(Drop)]
 pub struct StreamBench {
-    ends: Vec<u32>,
+    /// The stream position behind all blocks so far.
+    counted: u32,
+    /// The positions up to there at which no transition ends.
+    skipped: Vec<u32>,
     overflows: Vec<u32>,
     indexes: Vec<Mark>,
 }
 
 impl Model for StreamBench {
-    ghost use Rattle.std.specs.Prelude.{◌-◌, vec_len};
+    ghost use Rattle.std.specs.Prelude.{◌≤◌, ◌-◌, length, vec_len};
     ghost use Rattle.std.specs.Vec.{vec_capacity};
-    ghost use Rattle.kryo_stream.specs.Bench.{BenchState};
+    ghost use Rattle.kryo_stream.specs.Bench.{AreSkipped, BenchState, ends_between};
 
     ghost Value = { BenchState };
 
     ghost view = { λ b. record {
-      ends = b.ends.items;
+      counted = b.counted;
+      ends = ends_between 0 b.skipped.items b.counted;
       overflows = b.overflows.items;
       indexes = b.indexes.items;
-      spare_ends = vec_capacity b.ends - vec_len b.ends;
+      spare_ends = vec_capacity b.skipped - length (ends_between 0 b.skipped.items b.counted);
       spare_overflows = vec_capacity b.overflows - vec_len b.overflows;
       spare_indexes = vec_capacity b.indexes - vec_len b.indexes;
     } };
+
+    // there is room for each position, so that room is the same whatever ends there
+    ghost invariant = { λ b. AreSkipped 0 b.skipped.items b.counted × (b.counted ≤ vec_capacity b.skipped) };
 }
 
 impl StreamBench {
@@ -65,7 +73,8 @@ impl StreamBench {
         ensures { IsNoted [] result }
     {
         StreamBench {
-            ends: Vec::new(alloc),
+            counted: 0,
+            skipped: Vec::new(alloc),
             overflows: Vec::new(alloc),
             indexes: Vec::new(alloc),
         }
@@ -78,8 +87,8 @@ impl StreamBench {
         ensures kept { KeepsNotes self.old self.new }
         ensures room { KeepsBenchRoom self.old self.new }
     {
-        self.ends
-            .try_reserve(MOST_TIMES.saturating_sub(self.ends.len()))?;
+        self.skipped
+            .try_reserve(MOST_TIMES.saturating_sub(self.skipped.len()))?;
         self.overflows
             .try_reserve(MOST_TIMES.saturating_sub(self.overflows.len()))?;
         self.indexes
@@ -92,23 +101,19 @@ impl StreamBench {
         ensures empty { IsNoted [] self.new }
         ensures room { KeepsBenchRoom self.old self.new }
     {
-        self.ends.clear();
+        self.counted = 0;
+        self.skipped.clear();
         self.overflows.clear();
         self.indexes.clear();
     }
 
-    /// Takes note of block `number` of the stream, which begins at the stream position `position`.
+    /// Takes note of block `number` of the stream.
     #[inline(always)]
-    pub(crate) fn note(
-        &mut self,
-        number: u32,
-        position: u32,
-        piece: SpelledBlock,
-    ) -> Result<(), Memory>
+    pub(crate) fn note(&mut self, number: u32, piece: SpelledBlock) -> Result<(), Memory>
         requires size { IsSized piece }
-        requires end { position + piece.bytes < 2 ^ 32 }
+        requires end { self.old.counted + piece.bytes < 2 ^ 32 }
         ensures noted { OnOk result ((ps : List SpelledBlock) → IsNoted ps self.old → length ps ≡ number
-            → in_stream_bytes ps ≡ position → IsNoted (ps ++ piece ∷ []) self.new) }
+            → IsNoted (ps ++ piece ∷ []) self.new) }
         ensures room { KeepsBenchRoom self.old self.new }
 
         // no memory is taken within the full room
@@ -116,8 +121,6 @@ impl StreamBench {
             → total_bytes ps + piece.bytes ≤ LIMIT → IsOk result }
     {
         match piece.block {
-            Block::Flux { .. } => self.push_end(position + piece.bytes as u32),
-            Block::Overflow => self.push_overflow(position),
             Block::Index {
                 position,
                 sample,
@@ -127,71 +130,92 @@ impl StreamBench {
                 position,
                 sample,
             }),
-            _ => Ok(()),
+            _ => self.note_bytes(&piece),
         }
     }
 
-    /// Makes room for the ends of so many more transitions.
-    pub(crate) fn reserve_ends(&mut self, count: usize) -> Result<(), Memory>
+    /// Makes room for so many more in-stream bytes, whatever blocks they are of.
+    pub(crate) fn reserve_bytes(&mut self, count: usize) -> Result<(), Memory>
+        requires end { self.old.counted + count < 2 ^ 32 }
         ensures kept { KeepsNotes self.old self.new }
+        ensures overflows { self.new.spare_overflows ≡ self.old.spare_overflows }
         ensures room { KeepsBenchRoom self.old self.new }
-        ensures spare { OnOk result (count ≤ self.new.spare_ends) }
-        ensures succeeds { count ≤ self.old.spare_ends → IsOk result }
+        ensures spare { OnOk result (HasRoomFor count self.new) }
+        ensures succeeds { HasRoomFor count self.old → IsOk result }
     {
-        self.ends.try_reserve(count)?;
+        let more = self.counted as usize - self.skipped.len() + count;
+        self.skipped.try_reserve(more)?;
         Ok(())
     }
 
-    /// Takes note of a transition that ends at this stream position, for which there is room.
+    /// Takes note of so many transitions of one byte, for which there is room.
     #[inline(always)]
-    pub(crate) fn note_end(&mut self, end: u32)
-        requires { 0 < self.old.spare_ends }
-        ensures { AddsEnds 1 (end ∷ []) self.old self.new }
+    pub(crate) fn note_row(&mut self, count: u32)
+        requires end { self.old.counted + count < 2 ^ 32 }
+        requires room { HasRoomFor count self.old }
+        ensures { AddsEnds count count (range_with_len (self.old.counted + 1) count) self.old self.new }
     {
-        self.ends.push_reserved(end);
+        self.counted += count;
     }
 
-    /// Takes note of the first `count` of a run of transitions of one byte, for all of which there is room. The first of
-    /// them begins at this stream position.
+    /// Takes note of a transition of so many bytes, for which there is room.
     #[inline(always)]
-    pub(crate) fn note_front(&mut self, position: u32, run: u32, count: u32)
-        requires end { position + run < 2 ^ 32 }
-        requires room { run ≤ self.old.spare_ends }
-        requires inside { count ≤ run }
-        ensures { AddsEnds count (range_with_len (position + 1) count) self.old self.new }
+    pub(crate) fn note_end(&mut self, bytes: u32)
+        requires some { 1 ≤ bytes }
+        requires end { self.old.counted + bytes < 2 ^ 32 }
+        requires room { HasRoomFor bytes self.old }
+        ensures { AddsEnds bytes 1 ((self.old.counted + bytes) ∷ []) self.old self.new }
     {
-        let nothing = Vec::new(*self.ends.allocator());
-        let ends = mem::replace(&mut self.ends, nothing);
-        self.ends = append_front(ends, position, run, count);
+        self.skip(bytes - 1);
+        self.note_row(1);
+    }
+
+    /// Takes note of so many bytes at which no transition ends, for which there is room.
+    #[inline(always)]
+    fn skip(&mut self, count: u32)
+        requires end { self.old.counted + count < 2 ^ 32 }
+        requires room { HasRoomFor count self.old }
+        ensures { AddsEnds count 0 [] self.old self.new }
+    {
+        for _ in 0..count {
+            self.skip_byte();
+        }
+    }
+
+    /// Takes note of a byte at which no transition ends, for which there is room.
+    #[inline(always)]
+    fn skip_byte(&mut self)
+        requires end { self.old.counted + 1 < 2 ^ 32 }
+        requires room { HasRoomFor 1 self.old }
+        ensures { AddsEnds 1 0 [] self.old self.new }
+    {
+        self.counted += 1;
+        self.skipped.push_reserved(self.counted);
     }
 
     /// Takes all out, the room too, and leaves a bench that holds nothing.
     pub(crate) fn take(&mut self) -> StreamBench
         ensures { result ≡ self.old }
     {
-        let empty = StreamBench::new(*self.ends.allocator());
+        let empty = StreamBench::new(*self.skipped.allocator());
         mem::replace(self, empty)
     }
 
-    /// Takes note of an in-stream block that begins at the stream position `position`.
+    /// Takes note of the in-stream bytes of a block.
     #[inline(always)]
-    pub(crate) fn note_in_stream(
-        &mut self,
-        position: u32,
-        piece: &SpelledBlock,
-    ) -> Result<(), Memory>
-        requires end { position + piece.now.bytes < 2 ^ 32 }
-        ensures ends { OnOk result
-            (self.new.ends ≡ self.old.ends ++ end_of (position + piece.now.bytes) piece.now.block) }
-        ensures overflows { OnOk result
-            (self.new.overflows ≡ self.old.overflows ++ overflow_of position piece.now.block) }
-        ensures indexes { self.new.indexes ≡ self.old.indexes }
+    pub(crate) fn note_bytes(&mut self, piece: &SpelledBlock) -> Result<(), Memory>
+        requires size { IsSized piece.now }
+        requires end { self.old.counted + piece.now.bytes < 2 ^ 32 }
+        ensures notes { OnOk result
+            (AddsNotes (stream_step piece.now) (end_of (self.old.counted + stream_step piece.now) piece.now.block)
+            (overflow_of self.old.counted piece.now.block) self.old self.new) }
         ensures room { KeepsBenchRoom self.old self.new }
-        ensures succeeds { 0 < self.old.spare_ends → 0 < self.old.spare_overflows → IsOk result }
+        ensures succeeds { HasRoomFor piece.now.bytes self.old → 0 < self.old.spare_overflows → IsOk result }
     {
         match piece.block {
-            Block::Flux { .. } => self.push_end(position + piece.bytes as u32),
-            Block::Overflow => self.push_overflow(position),
+            Block::Flux { .. } => self.push_end(piece.bytes as u32),
+            Block::Overflow => self.push_overflow(),
+            Block::Nop { .. } => self.push_nothing(piece.bytes as u32),
             _ => Ok(()),
         }
     }
@@ -237,6 +261,7 @@ impl StreamBench {
     /// Appends the index time of the next Index block.
     fn place(&self, mark: Mark, total: u32, flux: &mut TrackFlux) -> Result<(), TrackFault>
         requires searchable { IsSearchable self.now flux.old.times }
+        requires total { total ≤ self.now.counted }
         ensures indexes { OnOk result
             (flux.new.indexes ≡ flux.old.indexes ++ mark_time self.now flux.old.times mark ∷ []) }
         ensures within { OnOk result (mark.position ≤ total) }
@@ -272,36 +297,72 @@ impl StreamBench {
     /// The time in ticks at which the block begins that holds the in-stream byte at `position`.
     fn begin_time(&self, times: &[u64], position: u32) -> u64
         requires searchable { IsSearchable self.now times.now }
+        requires within { position ≤ self.now.counted }
         ensures value { result ≡ base_time self.now.ends self.now.overflows times.now position }
         ensures early { result < 2 ^ 49 }
     {
-        let count = count_to(self.ends.as_slice(), position);
-        let end = end_before(self.ends.as_slice(), count);
+        let count = self.count_to(position);
+        let end = self.end_before(count);
         let behind = count_below(self.overflows.as_slice(), position);
         let before = count_below(self.overflows.as_slice(), end);
         time_before(times, count) + OVERFLOW_TICKS * (behind - before) as u64
     }
 
-    /// Takes note of a transition that ends at this stream position.
-    fn push_end(&mut self, end: u32) -> Result<(), Memory>
-        ensures ends { OnOk result (self.new.ends ≡ self.old.ends ++ end ∷ []) }
-        ensures overflows { self.new.overflows ≡ self.old.overflows }
-        ensures indexes { self.new.indexes ≡ self.old.indexes }
-        ensures room { KeepsBenchRoom self.old self.new }
-        ensures succeeds { 0 < self.old.spare_ends → IsOk result }
+    /// How many transitions end at most at this stream position.
+    fn count_to(&self, position: u32) -> usize
+        requires order { IsNonDecreasing self.now.ends }
+        requires within { position ≤ self.now.counted }
+        ensures count { result ≡ count_by (λ x. nat_le x position) self.now.ends }
+        ensures few { result ≤ length self.now.ends }
+        ensures last { get_or (0 ∷ self.now.ends) result 0 ≤ position }
     {
-        self.ends.try_reserve(1)?;
-        self.ends.push_reserved(end);
+        position as usize - count_at_most(self.skipped.as_slice(), position)
+    }
+
+    /// Where the last of the first `count` transitions ends, or 0.
+    fn end_before(&self, count: usize) -> u32
+        requires inside { count ≤ length self.now.ends }
+        requires near { self.now.counted ≤ LIMIT }
+        ensures { result ≡ get_or (0 ∷ self.now.ends) count 0 }
+    {
+        (count + skipped_before(self.skipped.as_slice(), count)) as u32
+    }
+
+    /// Takes note of a transition of so many bytes.
+    fn push_end(&mut self, bytes: u32) -> Result<(), Memory>
+        requires some { 1 ≤ bytes }
+        requires end { self.old.counted + bytes < 2 ^ 32 }
+        ensures notes { OnOk result (AddsNotes bytes ((self.old.counted + bytes) ∷ []) [] self.old self.new) }
+        ensures room { KeepsBenchRoom self.old self.new }
+        ensures succeeds { HasRoomFor bytes self.old → IsOk result }
+    {
+        self.reserve_bytes(bytes as usize)?;
+        self.note_end(bytes);
         Ok(())
     }
 
-    fn push_overflow(&mut self, begin: u32) -> Result<(), Memory>
-        ensures overflows { OnOk result (self.new.overflows ≡ self.old.overflows ++ begin ∷ []) }
-        ensures ends { self.new.ends ≡ self.old.ends }
-        ensures indexes { self.new.indexes ≡ self.old.indexes }
+    /// Takes note of so many bytes at which no transition ends.
+    fn push_nothing(&mut self, bytes: u32) -> Result<(), Memory>
+        requires end { self.old.counted + bytes < 2 ^ 32 }
+        ensures notes { OnOk result (AddsNotes bytes [] [] self.old self.new) }
+        ensures spare { self.new.spare_overflows ≡ self.old.spare_overflows }
         ensures room { KeepsBenchRoom self.old self.new }
-        ensures succeeds { 0 < self.old.spare_overflows → IsOk result }
+        ensures succeeds { HasRoomFor bytes self.old → IsOk result }
     {
+        self.reserve_bytes(bytes as usize)?;
+        self.skip(bytes);
+        Ok(())
+    }
+
+    /// Takes note of an overflow.
+    fn push_overflow(&mut self) -> Result<(), Memory>
+        requires end { self.old.counted + 1 < 2 ^ 32 }
+        ensures notes { OnOk result (AddsNotes 1 [] (self.old.counted ∷ []) self.old self.new) }
+        ensures room { KeepsBenchRoom self.old self.new }
+        ensures succeeds { HasRoomFor 1 self.old → 0 < self.old.spare_overflows → IsOk result }
+    {
+        let begin = self.counted;
+        self.push_nothing(1)?;
         self.overflows.try_reserve(1)?;
         self.overflows.push_reserved(begin);
         Ok(())
@@ -309,6 +370,7 @@ impl StreamBench {
 
     fn push_index(&mut self, mark: Mark) -> Result<(), Memory>
         ensures indexes { OnOk result (self.new.indexes ≡ self.old.indexes ++ mark ∷ []) }
+        ensures counted { self.new.counted ≡ self.old.counted }
         ensures ends { self.new.ends ≡ self.old.ends }
         ensures overflows { self.new.overflows ≡ self.old.overflows }
         ensures room { KeepsBenchRoom self.old self.new }
@@ -320,44 +382,10 @@ impl StreamBench {
     }
 }
 
-/// Appends the positions at which the transitions of a run end to a list that has room for them. The list is handed
-/// over by value, so that its place and its length stay in registers.
-#[inline(always)]
-fn append_ends(mut ends: Vec<u32>, position: u32, count: u32) -> Vec<u32>
-    requires room { vec_len ends + count ≤ vec_capacity ends }
-    requires end { position + count < 2 ^ 32 }
-    ensures items { result.items ≡ ends.items ++ range_with_len (position + 1) count }
-    ensures len { vec_len result ≡ vec_len ends + count }
-    ensures capacity { vec_capacity result ≡ vec_capacity ends }
-{
-    for number in 0..count {
-        ends.push_reserved(position + 1 + number);
-    }
-    ends
-}
-
-/// The same of the first `count` transitions of a run, where there is room for all of them: all are appended, and those
-/// behind are taken back.
-#[inline(always)]
-fn append_front(ends: Vec<u32>, position: u32, run: u32, count: u32) -> Vec<u32>
-    requires room { vec_len ends + run ≤ vec_capacity ends }
-    requires end { position + run < 2 ^ 32 }
-    requires inside { count ≤ run }
-    ensures items { result.items ≡ ends.items ++ range_with_len (position + 1) count }
-    ensures len { vec_len result ≡ vec_len ends + count }
-    ensures capacity { vec_capacity result ≡ vec_capacity ends }
-{
-    let len = ends.len() + count as usize;
-    let mut front = append_ends(ends, position, run);
-    front.truncate(len);
-    front
-}
-
 /// How many numbers of a rising list are at most the limit.
-fn count_to(list: &[u32], limit: u32) -> usize
+fn count_at_most(list: &[u32], limit: u32) -> usize
     requires { IsNonDecreasing list.now }
-    ensures count { result ≡ count_by (λ x. nat_le x limit) list.now }
-    ensures last { get_or (0 ∷ list.now) result 0 ≤ limit }
+    ensures { result ≡ count_by (λ x. nat_le x limit) list.now }
 {
     list.partition_point(|number| *number <= limit)
 }
@@ -370,15 +398,26 @@ fn count_below(list: &[u32], limit: u32) -> usize
     list.partition_point(|number| *number < limit)
 }
 
-/// Where the last of the first `count` transitions ends, or 0.
-fn end_before(ends: &[u32], count: usize) -> u32
-    requires { count ≤ length ends.now }
-    ensures { result ≡ get_or (0 ∷ ends.now) count 0 }
+/// How many of the positions at which no transition ends stand before the end of transition `count`. The one of number
+/// `j`, from 0, does where at most `count` and `j` positions stand up to there, and then all that come before it do.
+fn skipped_before(skipped: &[u32], count: usize) -> usize
+    requires rising { (high : ℕ) × AreSkipped 0 skipped.now high }
+    requires few { count < 2 ^ 32 }
+    ensures inside { result ≤ length skipped.now }
+    ensures before { (j : ℕ) → j < result → get_or skipped.now j 0 ≤ count + j }
+    ensures behind { (j : ℕ) → result ≤ j → j < length skipped.now → count + j < get_or skipped.now j 0 }
 {
-    match count {
-        0 => 0,
-        _ => ends[count - 1],
+    let mut low = 0;
+    let mut high = skipped.len();
+    while low < high {
+        let middle = low + (high - low) / 2;
+        if skipped[middle] as usize <= count + middle {
+            low = middle + 1;
+        } else {
+            high = middle;
+        }
     }
+    low
 }
 
 /// The time of the last of the first `count` transitions, or 0.

@@ -1,7 +1,7 @@
 ghost use Rattle.std.specs.Prelude.{◌≡◌, ◌≤◌, ◌<◌, ◌+◌, ◌*◌, ◌^◌, ◌++◌, ◌∷◌, [], ℕ, List, All, length, take, false};
 ghost use Rattle.std.specs.List.{range_with_len, sum};
 ghost use Rattle.index_turns.specs.Track.{times_after};
-ghost use Rattle.kryo_stream.specs.inside.Keeping.{AddsTimes, AddsEnds, KeepsFlux};
+ghost use Rattle.kryo_stream.specs.inside.Keeping.{AddsTimes, AddsEnds, HasRoomFor, KeepsFlux};
 ghost use Rattle.kryo_stream.specs.inside.Progress.{IsReading};
 
 use crate::before::Before;
@@ -32,10 +32,9 @@ pub fn keep_flux(before: &Before, flux: TrackFlux, bench: StreamBench, bytes: &[
     requires going { before.now.ended ≡ false }
     requires limit { before.now.offset + length bytes.now ≤ 4194304 }
     requires room { length bytes.now ≤ flux.spare_times }
-    requires bench { length bytes.now ≤ bench.spare_ends }
+    requires bench { HasRoomFor (length bytes.now) bench }
     ensures { KeepsFlux bytes.now before.now flux result.flux bench result.bench result.place result.time }
 {
-    let begin = before.counted;
     let mut kept = Kept {
         flux,
         bench,
@@ -45,87 +44,90 @@ pub fn keep_flux(before: &Before, flux: TrackFlux, bench: StreamBench, bytes: &[
     loop {
         let rest = &bytes[kept.place..];
         if let [0x0E..=0xFF, ..] = rest {
-            kept.keep_row(begin, rest, short_row(rest));
+            kept.keep_row(rest, short_row(rest));
             continue;
         }
         match long_flux(rest) {
-            Some(long) => kept.keep_long(begin, long),
+            Some(long) => kept.keep_long(long),
             None => return kept,
         }
     }
 }
 
 impl Kept {
-    /// Keeps the transitions of one byte that the bytes begin with, so many of them. `begin` is the stream position of
-    /// the first of all bytes.
+    /// Keeps the transitions of one byte that the bytes begin with, so many of them.
     #[inline(always)]
-    fn keep_row(&mut self, begin: u32, bytes: &[u8], count: usize)
+    fn keep_row(&mut self, bytes: &[u8], count: usize)
         requires order { All (λ time. time ≤ self.old.time) self.old.flux.times }
         requires within { self.old.time + 255 * 16 < 2 ^ 64 }
-        requires end { begin + self.old.place + 16 < 2 ^ 32 }
+        requires end { self.old.bench.counted + 16 < 2 ^ 32 }
+        requires place { self.old.place ≤ 4194304 }
         requires room { length bytes.now ≤ self.old.flux.spare_times }
-        requires bench { length bytes.now ≤ self.old.bench.spare_ends }
+        requires bench { HasRoomFor (length bytes.now) self.old.bench }
         requires some { 1 ≤ count }
         requires few { count ≤ 16 }
         requires inside { count ≤ length bytes.now }
         ensures flux { AddsTimes count (times_after self.old.time (take count bytes.now)) self.old.flux self.new.flux }
-        ensures bench { AddsEnds count (range_with_len (begin + self.old.place + 1) count) self.old.bench
+        ensures bench { AddsEnds count count (range_with_len (self.old.bench.counted + 1) count) self.old.bench
             self.new.bench }
         ensures place { self.new.place ≡ self.old.place + count }
         ensures time { self.new.time ≡ self.old.time + sum (take count bytes.now) }
     {
         // Where the length is known the loops are unrolled.
         if bytes.len() < LANES {
-            self.keep_front(begin, bytes, count, count);
+            self.keep_front(bytes, count, count);
         } else if count == LANES {
-            self.keep_front(begin, bytes, LANES, LANES);
+            self.keep_front(bytes, LANES, LANES);
         } else if count > HALF {
-            self.keep_front(begin, bytes, LANES, count);
+            self.keep_front(bytes, LANES, count);
         } else {
-            self.keep_front(begin, bytes, HALF, count);
+            self.keep_front(bytes, HALF, count);
         }
     }
 
     /// Keeps the first `count` bytes as transitions, where there is room for `row` of them.
     #[inline(always)]
-    fn keep_front(&mut self, begin: u32, bytes: &[u8], row: usize, count: usize)
+    fn keep_front(&mut self, bytes: &[u8], row: usize, count: usize)
         requires order { All (λ time. time ≤ self.old.time) self.old.flux.times }
         requires within { self.old.time + 255 * 16 < 2 ^ 64 }
-        requires end { begin + self.old.place + 16 < 2 ^ 32 }
+        requires end { self.old.bench.counted + 16 < 2 ^ 32 }
+        requires place { self.old.place ≤ 4194304 }
         requires row { row ≤ length bytes.now }
         requires most { row ≤ 16 }
         requires room { row ≤ self.old.flux.spare_times }
-        requires bench { row ≤ self.old.bench.spare_ends }
+        requires bench { HasRoomFor row self.old.bench }
         requires some { 1 ≤ count }
         requires few { count ≤ row }
         ensures flux { AddsTimes count (times_after self.old.time (take count bytes.now)) self.old.flux self.new.flux }
-        ensures bench { AddsEnds count (range_with_len (begin + self.old.place + 1) count) self.old.bench
+        ensures bench { AddsEnds count count (range_with_len (self.old.bench.counted + 1) count) self.old.bench
             self.new.bench }
         ensures place { self.new.place ≡ self.old.place + count }
         ensures time { self.new.time ≡ self.old.time + sum (take count bytes.now) }
     {
         self.time = self.flux.push_front_reserved(self.time, bytes, row, count);
-        self.bench
-            .note_front(begin + self.place as u32, row as u32, count as u32);
+        self.bench.note_row(count as u32);
         self.place += count;
     }
 
     /// Keeps a transition of two or three bytes.
     #[inline(always)]
-    fn keep_long(&mut self, begin: u32, long: LongFlux)
+    fn keep_long(&mut self, long: LongFlux)
         requires order { All (λ time. time ≤ self.old.time) self.old.flux.times }
         requires within { self.old.time + long.ticks < 2 ^ 64 }
-        requires end { begin + self.old.place + long.bytes < 2 ^ 32 }
+        requires some { 1 ≤ long.bytes }
+        requires end { self.old.bench.counted + long.bytes < 2 ^ 32 }
+        requires place { self.old.place ≤ 4194304 }
         requires room { 0 < self.old.flux.spare_times }
-        requires bench { 0 < self.old.bench.spare_ends }
+        requires bench { HasRoomFor long.bytes self.old.bench }
         ensures flux { AddsTimes 1 ((self.old.time + long.ticks) ∷ []) self.old.flux self.new.flux }
-        ensures bench { AddsEnds 1 ((begin + self.old.place + long.bytes) ∷ []) self.old.bench self.new.bench }
+        ensures bench { AddsEnds long.bytes 1 ((self.old.bench.counted + long.bytes) ∷ []) self.old.bench
+            self.new.bench }
         ensures place { self.new.place ≡ self.old.place + long.bytes }
         ensures time { self.new.time ≡ self.old.time + long.ticks }
     {
         self.time += u64::from(long.ticks);
         self.place += long.bytes;
         self.flux.push_reserved(self.time);
-        self.bench.note_end(begin + self.place as u32);
+        self.bench.note_end(long.bytes as u32);
     }
 }

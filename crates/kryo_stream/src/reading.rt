@@ -14,7 +14,7 @@ ghost use Rattle.kryo_stream.specs.inside.Pieces.{IsText};
 ghost use Rattle.kryo_stream.specs.inside.Progress.{TakesOpenly, IsReading, ReadsOn, IsBlockOpen, TakesBlock};
 ghost use Rattle.kryo_stream.specs.inside.Progress.{IsSkipped, IsUnpadded};
 ghost use Rattle.kryo_stream.specs.Reads.{reads_at};
-ghost use Rattle.kryo_stream.specs.Stream.{in_stream_bytes, total_bytes};
+ghost use Rattle.kryo_stream.specs.Stream.{total_bytes};
 ghost use Rattle.kryo_stream.specs.Tally.{new_times};
 ghost use Rattle.kryo_stream.specs.inside.Tally.{IsWithin, MayFollow};
 
@@ -231,6 +231,8 @@ fn pass_flux(
     bench: &mut StreamBench,
 ) -> Result<u32, Memory>
     requires read { (x : List ℕ) × (n : ℕ) × IsReading x n intake.old.held before.old flux.old.times bench.old }
+    requires within { IsWithin before.old }
+    requires counted { bench.old.counted ≡ before.old.counted }
     ensures reading { IfOk result
         (λ count.
         ReadsOn count intake.old.held intake.new.held before.old before.new flux.old.times flux.new.times bench.old
@@ -242,15 +244,15 @@ fn pass_flux(
     ensures indexes { flux.new.indexes ≡ flux.old.indexes }
     ensures room { KeepsRoom flux.old flux.new }
     ensures bench { KeepsBenchRoom bench.old bench.new }
-    ensures succeeds { length flux.old.times ≤ before.old.offset → HasFullRoom flux.old
-        → length bench.old.ends ≤ before.old.offset → HasFullBench bench.old → IsOk result }
+    ensures succeeds { length flux.old.times ≤ before.old.offset → HasFullRoom flux.old → HasFullBench bench.old
+        → IsOk result }
 {
     let reach = flux_reach(before, intake.bytes());
     if reach == 0 {
         return Ok(0);
     }
     flux.reserve_times(reach)?;
-    bench.reserve_ends(reach)?;
+    bench.reserve_bytes(reach)?;
     let first = flux.times().len();
     let kept = keep_flux(before, flux.take(), bench.take(), &intake.bytes()[..reach]);
     *flux = kept.flux;
@@ -275,6 +277,7 @@ fn pass_block(
 ) -> Result<u32, Memory>
     requires within { IsWithin before.old }
     requires times { All (λ time. time ≤ before.old.time) flux.old.times }
+    requires counted { bench.old.counted ≡ before.old.counted }
     ensures reading { IfOk result
         (λ count.
         ReadsOn count intake.old.held intake.new.held before.old before.new flux.old.times flux.new.times bench.old
@@ -287,14 +290,13 @@ fn pass_block(
     ensures room { KeepsRoom flux.old flux.new }
     ensures bench { KeepsBenchRoom bench.old bench.new }
     ensures succeeds { length flux.old.times ≤ before.old.offset → HasFullRoom flux.old
-        → length bench.old.ends ≤ before.old.offset → length bench.old.overflows ≤ before.old.offset
-        → HasFullBench bench.old → IsOk result }
+        → length bench.old.overflows ≤ before.old.offset → HasFullBench bench.old → IsOk result }
 {
     let Some(piece) = whole_block(before, intake.bytes()) else {
         return Ok(0);
     };
     note_time(&piece, before, flux)?;
-    bench.note_in_stream(before.counted, &piece)?;
+    bench.note_bytes(&piece)?;
     intake.pass(piece.bytes);
     *before = before.behind(&piece);
     Ok(1)
@@ -443,18 +445,18 @@ fn note(
     requires follows { MayFollow before.now piece.now }
     requires sized { IsSized piece.now }
     requires times { All (λ time. time ≤ before.now.time) flux.old.times }
+    requires counted { bench.old.counted ≡ before.now.counted }
     ensures times { OnOk result (flux.new.times ≡ flux.old.times ++ new_times before.now.time piece.now.block) }
     ensures indexes { flux.new.indexes ≡ flux.old.indexes }
     ensures room { KeepsRoom flux.old flux.new }
-    ensures noted { OnOk result
-        ((ps : List SpelledBlock) → IsNoted ps bench.old → length ps ≡ number → in_stream_bytes ps ≡ before.now.counted
+    ensures noted { OnOk result ((ps : List SpelledBlock) → IsNoted ps bench.old → length ps ≡ number
         → IsNoted (ps ++ piece.now ∷ []) bench.new) }
     ensures bench { KeepsBenchRoom bench.old bench.new }
     ensures succeeds { 0 < flux.old.spare_times → HasFullBench bench.old → (ps : List SpelledBlock)
         → IsNoted ps bench.old → total_bytes ps + piece.now.bytes ≤ LIMIT → IsOk result }
 {
     note_time(piece, before, flux)?;
-    bench.note(number, before.counted, *piece)
+    bench.note(number, *piece)
 }
 
 /// Keeps the transition of a block.

@@ -43,6 +43,7 @@ pub record IsSearchable (b : BenchState) (transitions : List ℕ) : Type 0 where
   pub overflow_order : IsNonDecreasing b.overflows
   pub matched : length transitions ≡ length b.ends
   pub few : length b.overflows ≤ LIMIT
+  pub near : b.counted ≤ LIMIT
   pub early : All (λ time. time < 2 ^ 48) transitions
 
 -- the index time of an Index block

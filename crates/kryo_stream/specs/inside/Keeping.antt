@@ -22,8 +22,20 @@ pub record AddsTimes (count : ℕ) (added : List ℕ) (old new : TrackState) : T
   pub spare_times : new.spare_times + count ≡ old.spare_times
   pub spare_indexes : new.spare_indexes ≡ old.spare_indexes
 
--- so many ends more are noted, in the room that was there
-pub record AddsEnds (count : ℕ) (added : List ℕ) (old new : BenchState) : Type 0 where
+-- so many in-stream bytes more are noted, with these ends and overflows
+pub record AddsNotes (bytes : ℕ) (added begins : List ℕ) (old new : BenchState) : Type 0 where
+  pub counted : new.counted ≡ old.counted + bytes
+  pub ends : new.ends ≡ old.ends ++ added
+  pub overflows : new.overflows ≡ old.overflows ++ begins
+  pub indexes : new.indexes ≡ old.indexes
+
+-- there is room for so many in-stream bytes more
+abbrev pub HasRoomFor : ℕ → BenchState → Type 0
+HasRoomFor bytes b = b.counted + bytes ≤ length b.ends + b.spare_ends
+
+-- so many bytes and ends more are noted, in the room that was there
+pub record AddsEnds (bytes count : ℕ) (added : List ℕ) (old new : BenchState) : Type 0 where
+  pub counted : new.counted ≡ old.counted + bytes
   pub ends : new.ends ≡ old.ends ++ added
   pub overflows : new.overflows ≡ old.overflows
   pub indexes : new.indexes ≡ old.indexes
@@ -50,4 +62,4 @@ pub record KeepsFlux (bytes : List ℕ) (b : Before) (old new : TrackState)
   pub room : KeepsRoom old new
   pub bench_room : KeepsBenchRoom bench bench'
   pub spare : length bytes ≤ new.spare_times + place
-  pub spare_ends : length bytes ≤ bench'.spare_ends + place
+  pub spare_ends : bench'.counted + length bytes ≤ length bench'.ends + bench'.spare_ends + place

@@ -16,7 +16,10 @@ keep_row-requires-clause-within c =
 pub keep_row-requires-clause-end : goal.keep_row-requires-clause-end
 keep_row-requires-clause-end c =
     let roomy = keeps_roomy c.requires.read.2 c.requires.read.3 c.loop-kept.invariant in
-    omega (arith, roomy.within.counted, roomy.within.offset)
+    omega (arith, roomy.counted, roomy.within.counted, roomy.within.offset)
+
+pub keep_row-requires-clause-place : goal.keep_row-requires-clause-place
+keep_row-requires-clause-place c = omega (arith, c.loop-kept.invariant.inside, c.requires.limit)
 
 pub keep_row-requires-clause-room : goal.keep_row-requires-clause-room
 keep_row-requires-clause-room c =
@@ -40,6 +43,33 @@ pub keep_long-requires-clause-within : goal.keep_long-requires-clause-within
 keep_long-requires-clause-within c =
     let roomy = keeps_roomy c.requires.read.2 c.requires.read.3 c.loop-kept.invariant in
     omega (arith, roomy.within.time, roomy.within.offset, c.in-Some.ensures.sized)
+
+pub keep_long-requires-clause-end : goal.keep_long-requires-clause-end
+keep_long-requires-clause-end c =
+    let roomy = keeps_roomy c.requires.read.2 c.requires.read.3 c.loop-kept.invariant in
+    omega (
+      arith,
+      roomy.counted,
+      roomy.within.counted,
+      roomy.within.offset,
+      c.in-Some.ensures.inside,
+      part_length c.args.bytes.now c.loop-kept.kept.place,
+      c.requires.limit,
+    )
+
+pub keep_long-requires-clause-place : goal.keep_long-requires-clause-place
+keep_long-requires-clause-place c = omega (arith, c.loop-kept.invariant.inside, c.requires.limit)
+
+pub keep_long-requires-clause-bench : goal.keep_long-requires-clause-bench
+keep_long-requires-clause-bench c =
+    let kept = c.loop-kept.invariant in
+    omega (
+      arith,
+      kept.spare_ends,
+      kept.inside,
+      c.in-Some.ensures.inside,
+      part_length c.args.bytes.now c.loop-kept.kept.place,
+    )
 
 pub loop-kept-preserved : goal.loop-kept-preserved
 loop-kept-preserved c =

@@ -7,6 +7,6 @@ pub returns-clause-reading : goal.returns-clause-reading
 returns-clause-reading c =
     let reads = rw c.bytes.ensures.value at c.in-Some.ensures.reading in
     reads_block c.args.intake.now.held c.pass.new.self.held c.args.before.now c.behind.result c.args.flux.now.times c.note_time.new.flux.times
-    c.args.bench.now c.note_in_stream.new.self c.in-Some.piece reads c.in-Some.ensures.in_stream c.in-Some.ensures.sized
+    c.args.bench.now c.note_bytes.new.self c.in-Some.piece reads c.in-Some.ensures.in_stream c.in-Some.ensures.sized
     (ap (λ (s : IntakeState). s.held) c.pass.ensures) c.behind.ensures.value c.behind.ensures.within
-    c.in_ok-note_time.ensures.times c.in_ok-note_in_stream.ensures.ends c.in_ok-note_in_stream.ensures.overflows c.note_in_stream.ensures.indexes
+    c.in_ok-note_time.ensures.times c.in_ok-note_bytes.ensures.notes

@@ -1,4 +1,4 @@
-use Rattle.std.proofs.Common.{◌≡◌, ◌∙◌, ◌++◌, ap, arith, refl, false, true, Ok, length}
+use Rattle.std.proofs.Common.{◌≡◌, ◌∙◌, ◌++◌, ap, arith, refl, sym, false, true, Ok, length}
 use Rattle.flux_base.specs.lemmas.Counting.{Counts-then, Counts-none}
 use Rattle.kryo_stream.proofs.Pieces.{piece_at-follows}
 use Rattle.kryo_stream.proofs.Answering.{Progress-start, Progress-on, Progress-push, run_memory, taken_for_block, read_refused, read_failed, read_memory, at_end, complete, read_end, not_end, note_finds_room, end_finds_room, end_counts, end_small}
@@ -134,6 +134,10 @@ overflow_add-number g c =
 pub unreachable-requires : goal.unreachable-requires
 unreachable-requires g c =
     let reading = c.loop.invariant.progress.reading in omega (arith, c.loop.invariant.rounds, c.loop-test.false, reading.count, reading.tally.within.offset)
+
+pub note-requires-clause-counted : goal.note-requires-clause-counted
+note-requires-clause-counted g c =
+    let reading = c.in-Ok.ensures.reading _ _ c.loop.invariant.progress.reading in reading.noted.counted ∙ sym reading.tally.counted
 
 pub note-requires-clause-within : goal.note-requires-clause-within
 note-requires-clause-within g c =

@@ -9,6 +9,7 @@ pub place-requires : goal.place-requires
 place-requires c = record {
   searchable = subst (IsSearchable c.args.self.now) (sym c.loop-mark.invariant.times)
       (IsSearchable-from_complete c.requires.complete.0 _ _ _ _ c.requires.complete.1);
+  total = omega (arith, c.requires.complete.1.counted, c.requires.complete.1.noted.counted);
 }
 
 pub loop-mark-preserved : goal.loop-mark-preserved
