@@ -1,5 +1,5 @@
 -- A part of a list of cells, as it is written.
-use Rattle.std.proofs.Common.{◌≡◌, ◌≤◌, ◌<◌, ◌+◌, ◌-◌, ◌++◌, ℕ, Bool, true, false, List, [], ◌∷◌, length, map, take, drop, get_or, Option, sym, subst, arith}
+use Rattle.std.proofs.Common.{◌≡◌, ◌≤◌, ◌<◌, ◌+◌, ◌-◌, ◌++◌, ℕ, Bool, true, false, List, [], ◌∷◌, length, map, take, drop, get_or, Option, ap, sym, ◌∙◌, subst, arith}
 use Rattle.cell_bits.specs.Search.{HasNoOne}
 use Rattle.flux_base.specs.Outside.{AppendsPart}
 use Rattle.flux_writer.specs.inside.Gathering.{Gathers}
@@ -27,37 +27,38 @@ pub in_time : (nominal position time number K : ℕ) (indexes : List ℕ) → Is
     → time ≤ cell_time nominal K
 in_time nominal position time number K indexes r order = omega (arith, r.reached, cell_time-le nominal number K order)
 
--- one more one of the part
+-- one more one of the part, at the time at which its cell ends
 module _ (cells : List Bool) (from number nominal place one to : ℕ) (start : from ≤ place) (order : place ≤ one)
     (stands : get_or cells one false ≡ true) (nowhere : HasNoOne cells place one)
     (old mid new : Option (List ℕ)) (held : List ℕ) (position time : ℕ) (indexes held' : List ℕ) (position' time' : ℕ) (indexes' : List ℕ)
-    (w : IsWritten old mid held position time indexes held' position' time' indexes' (times_between cells from place number nominal)) where
+    (w : IsWritten old mid held position time indexes held' position' time' indexes' (times_between cells from place number nominal))
+    (end : ℕ) (is : end ≡ cell_time nominal (number + (one - from))) where
   pub next_one : (held'' : List ℕ) (position'' time'' : ℕ) (indexes'' : List ℕ)
-      → Gathers mid new held' held'' (spellings (next_blocks position' time' (cell_time nominal (number + (one - from))) indexes'))
-      → position'' ≡ next_position position' time' (cell_time nominal (number + (one - from)))
-      → time'' ≡ cell_time nominal (number + (one - from))
-      → indexes'' ≡ indexes_from (cell_time nominal (number + (one - from))) indexes'
+      → Gathers mid new held' held'' (spellings (next_blocks position' time' end indexes'))
+      → position'' ≡ next_position position' time' end
+      → time'' ≡ end
+      → indexes'' ≡ indexes_from end indexes'
       → IsWritten old new held position time indexes held'' position'' time'' indexes'' (times_between cells from (one + 1) number nominal)
   next_one held'' position'' time'' indexes'' g position_is time_is indexes_are =
       subst (IsWritten old new held position time indexes held'' position'' time'' indexes'')
-      (sym (times_between-one cells from number nominal place one to start order stands nowhere))
+      (ap (λ t. times_between cells from place number nominal ++ t ∷ []) is ∙ sym (times_between-one cells from number nominal place one to start order stands nowhere))
       (IsWritten-more old mid new held position time indexes held' position' time' indexes' (times_between cells from place number nominal) w
-      (cell_time nominal (number + (one - from)) ∷ []) held'' position'' time'' indexes''
-      (IsWritten-one mid new held' position' time' (cell_time nominal (number + (one - from))) indexes' held'' position'' time'' indexes'' g
+      (end ∷ []) held'' position'' time'' indexes''
+      (IsWritten-one mid new held' position' time' end indexes' held'' position'' time'' indexes'' g
       position_is time_is indexes_are))
 
   pub next_one_fails : one < to → to ≤ length cells
-      → AppendsPart mid new (held' ++ spellings (next_blocks position' time' (cell_time nominal (number + (one - from))) indexes'))
+      → AppendsPart mid new (held' ++ spellings (next_blocks position' time' end indexes'))
       → AppendsPart old new (held ++ spellings (many_blocks position time (times_between cells from to number nominal) indexes))
   next_one_fails before within part =
       part_of_more old new held position time (times_between cells from to number nominal) (times_between cells from (one + 1) number nominal)
       (map (cell_time nominal) (ones_from (number + ((one + 1) - from)) (take (to - (one + 1)) (drop (one + 1) cells)))) indexes
       (sym (times_between-split cells from (one + 1) to number nominal (omega arith) (omega arith) within))
       (subst (λ times. AppendsPart old new (held ++ spellings (many_blocks position time times indexes)))
-      (sym (times_between-one cells from number nominal place one to start order stands nowhere))
+      (ap (λ t. times_between cells from place number nominal ++ t ∷ []) is ∙ sym (times_between-one cells from number nominal place one to start order stands nowhere))
       (IsWritten-part old mid new held position time indexes held' position' time' indexes' (times_between cells from place number nominal) w
-      (cell_time nominal (number + (one - from)) ∷ [])
-      (part_of_one mid new held' position' time' (cell_time nominal (number + (one - from))) indexes' part)))
+      (end ∷ [])
+      (part_of_one mid new held' position' time' end indexes' part)))
 
 -- one more word of the part
 module _ (cells : List Bool) (from number nominal place end : ℕ) (start : from ≤ place) (order : place ≤ end)

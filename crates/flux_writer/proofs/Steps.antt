@@ -1,5 +1,5 @@
 -- The blocks of one transition and of several.
-use Rattle.std.proofs.Common.{◌≡◌, ◌≤◌, ◌<◌, ◌+◌, ◌/◌, ◌%◌, ◌++◌, ◌&&◌, ℕ, zero, suc, Bool, true, false, cond, List, [], ◌∷◌, length, map, take, drop, replicate, nat_lt, nat_le, refl, ap, sym, ◌∙◌, subst, arith, append_assoc, append-nil, length-append, slice_get, Option, Some, None, if◌then◌else◌}
+use Rattle.std.proofs.Common.{◌≡◌, ◌≤◌, ◌<◌, ◌+◌, ◌/◌, ◌%◌, ◌++◌, ◌&&◌, ℕ, zero, suc, Bool, true, false, cond, List, [], ◌∷◌, length, map, take, drop, replicate, nat_lt, nat_le, refl, ap, sym, ◌∙◌, subst, arith, append_assoc, append-nil, length-append, slice_get, Option, Some, if◌then◌else◌}
 use Rattle.std.proofs.lemmas.Bool.Decides.{nat_tests}
 use Rattle.std.proofs.lemmas.List.{length-replicate, map-append}
 use Rattle.std.proofs.lemmas.List.Concat.{flat_map-append}
@@ -9,7 +9,7 @@ use Rattle.kryo_stream.specs.Spelling.{spelling, flux_spelling}
 use Rattle.flux_writer.specs.inside.Gathering.{Gathers}
 use Rattle.kryo_stream.specs.Sequence.{spellings}
 use Rattle.flux_writer.specs.Written.{interval_blocks, index_block}
-use Rattle.flux_writer.specs.inside.Writing.{next_position, count_before, indexes_before, indexes_from, next_blocks, many_blocks, position_after, time_after, indexes_after}
+use Rattle.flux_writer.specs.inside.Writing.{next_position, first_or_never, count_before, indexes_before, indexes_from, next_blocks, many_blocks, position_after, time_after, indexes_after}
 use Rattle.flux_base.specs.Outside.{AppendsPart}
 use Rattle.flux_writer.proofs.Gathered.{Gathers-more, Gathers-part, AppendsPart-longer}
 
@@ -122,16 +122,15 @@ module _ (time index : ℕ) (indexes : List ℕ) where
   pub indexes_from-no : time ≤ index → indexes_from time (index ∷ indexes) ≡ index ∷ indexes
   indexes_from-no behind = ap (λ n. drop n (index ∷ indexes)) (count_before-no behind)
 
--- no index time lies before the time where the first one does not, or where none is left
-pub count_before-first : (time index : ℕ) (indexes : List ℕ) → slice_get indexes 0 ≡ Some index → time ≤ index → count_before time indexes ≡ 0
-count_before-first time index [] is behind = cc
-count_before-first time index (x ∷ indexes) is behind =
-    let same : x ≡ index = cc in
-    count_before-no time x indexes (omega arith)
+-- by the first index time, or the greatest number of 64 bits, is told whether one lies before a time
+pub first-before : (time : ℕ) (indexes : List ℕ) → time ≤ 18446744073709551615 → first_or_never indexes < time
+    → slice_get indexes 0 ≡ Some (first_or_never indexes)
+first-before time [] fits before = absurd (omega (arith, fits, before))
+first-before time (x ∷ indexes) fits before = refl
 
-pub count_before-empty : (time : ℕ) (indexes : List ℕ) → slice_get indexes 0 ≡ None → count_before time indexes ≡ 0
-count_before-empty time [] is = refl
-count_before-empty time (x ∷ indexes) is = cc
+pub count_before-none : (time : ℕ) (indexes : List ℕ) → time ≤ first_or_never indexes → count_before time indexes ≡ 0
+count_before-none time [] behind = refl
+count_before-none time (x ∷ indexes) behind = count_before-no time x indexes behind
 
 -- the Index blocks of an interval are written one by one: those so far, and those that are left before its end
 pub record IndexesWritten (old new : Option (List ℕ)) (held held' : List ℕ) (position begin end : ℕ) (indexes left : List ℕ) : Type 0 where

@@ -1,5 +1,5 @@
 ghost use Rattle.std.specs.Prelude.{◌≡◌, ◌<◌, [], ◌∷◌, Some, IfSome, IfNone, map, drop, length, slice_get};
-ghost use Rattle.flux_writer.specs.inside.Writing.{ticks_of, AreCounted, count_before};
+ghost use Rattle.flux_writer.specs.inside.Writing.{ticks_of, AreCounted, count_before, first_or_never};
 
 use std::marker::Model;
 
@@ -11,25 +11,29 @@ pub(crate) enum IndexUnit {
     Cells { nominal: u32 },
 }
 
+/// A time that lies before none.
+const NEVER: u64 = u64::MAX;
+
 /// The index times that are not written yet, in ticks.
 #[derive(Drop)]
 pub(crate) struct IndexTimes<'a> {
     places: &'a [u64],
     unit: IndexUnit,
-    /// The time of the first of the places, worked out once, since each transition is compared with it.
-    next: Option<u64>,
+    /// The time of the first of the places, worked out once, since each transition is compared with it; `NEVER`
+    /// where there is none.
+    next: u64,
 }
 
 impl<'a> Model for IndexTimes<'a> {
-    ghost use Rattle.std.specs.Prelude.{◌≡◌, ℕ, List, map, slice_get};
-    ghost use Rattle.flux_writer.specs.inside.Writing.{ticks_of, AreCounted};
+    ghost use Rattle.std.specs.Prelude.{◌≡◌, ℕ, List, map};
+    ghost use Rattle.flux_writer.specs.inside.Writing.{ticks_of, AreCounted, first_or_never};
 
     ghost Value = { List ℕ };
 
     ghost view = { λ t. map (ticks_of t.unit) t.places.now };
 
     ghost invariant = { λ t.
-        AreCounted t.unit t.places.now × (t.next ≡ slice_get (map (ticks_of t.unit) t.places.now) 0) };
+        AreCounted t.unit t.places.now × (t.next ≡ first_or_never (map (ticks_of t.unit) t.places.now)) };
 }
 
 impl<'a> IndexTimes<'a> {
@@ -49,7 +53,7 @@ impl<'a> IndexTimes<'a> {
     pub(crate) fn next(&self) -> Option<u64>
         ensures { result ≡ slice_get self.now 0 }
     {
-        self.next
+        Some(ticks(self.unit, *self.places.first()?))
     }
 
     /// The next index time, if it lies before `end`.
@@ -58,8 +62,11 @@ impl<'a> IndexTimes<'a> {
         ensures some { IfSome result (λ time. (slice_get self.now 0 ≡ Some time) × (time < end)) }
         ensures none { IfNone result (count_before end self.now ≡ 0) }
     {
-        let time = self.next?;
-        if time < end { Some(time) } else { None }
+        if self.next < end {
+            Some(self.next)
+        } else {
+            None
+        }
     }
 
     /// Passes over the next index time.
@@ -72,12 +79,15 @@ impl<'a> IndexTimes<'a> {
     }
 }
 
-/// The time of the first of some indexes, in ticks.
-fn first_time(unit: IndexUnit, places: &[u64]) -> Option<u64>
+/// The time of the first of some indexes, in ticks, or `NEVER`.
+fn first_time(unit: IndexUnit, places: &[u64]) -> u64
     requires { AreCounted unit places.now }
-    ensures { result ≡ slice_get (map (ticks_of unit) places.now) 0 }
+    ensures { result ≡ first_or_never (map (ticks_of unit) places.now) }
 {
-    Some(ticks(unit, *places.first()?))
+    match places.first() {
+        Some(place) => ticks(unit, *place),
+        None => NEVER,
+    }
 }
 
 /// The time of an index, in ticks.

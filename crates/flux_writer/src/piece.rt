@@ -59,7 +59,7 @@ impl OutputPiece {
         ensures { Holds (sink_at W.Sink sink.old) (sink_at W.Sink sink.new) self.old self.new
             (byte ∷ []) result }
     {
-        if self.filled == ROOM {
+        if self.filled >= ROOM {
             match self.give(sink) {
                 Ok(()) => {}
                 Err(failed) => return Err(failed),

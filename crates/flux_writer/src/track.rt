@@ -204,12 +204,11 @@ fn write_word<W: Sink>(
         return Ok(());
     }
     let mut ahead = cells.word_at(part.from, left as u8);
+    let end = part.number + left as u64;
     while ahead != 0 {
         // how many cells stand behind the first one
         left = 31 - ahead.leading_zeros() as usize;
-        let one = part.to - 1 - left;
-        let number = part.number + (one - part.from) as u64;
-        let time = (number + 1) * nominal as u64 / 1024;
+        let time = (end - left as u64) * nominal as u64 / 1024;
         match stream.transition(time, sink) {
             Ok(()) => ahead -= 1 << left,
             Err(failed) => return Err(failed),

@@ -1,6 +1,6 @@
 -- One step of writing a stream.
 use Rattle.std.specs.Prelude.{◌≡◌, ℕ, ◌<◌, ◌≤◌, ◌^◌, ◌+◌, ◌-◌, ◌*◌, ◌/◌, ◌++◌, All, Bool}
-use Rattle.std.specs.Prelude.{List, [], ◌∷◌, length, take, drop, map, nat_lt, Option}
+use Rattle.std.specs.Prelude.{List, [], ◌∷◌, length, take, drop, map, get_or, nat_lt, Option}
 use Rattle.std.specs.List.{prefix_len}
 use Rattle.std.specs.List.Sorted.{IsStrictlyIncreasing}
 use Rattle.kryo_stream.specs.declared.block.Block.{Block}
@@ -32,6 +32,10 @@ indexes_before time indexes = take (count_before time indexes) indexes
 
 abbrev pub indexes_from : ℕ → List ℕ → List ℕ
 indexes_from time indexes = drop (count_before time indexes) indexes
+
+-- the first index time, or the greatest number of 64 bits where there is none
+abbrev pub first_or_never : List ℕ → ℕ
+first_or_never indexes = get_or indexes 0 18446744073709551615
 
 -- the stream position after an interval
 abbrev pub next_position : ℕ → ℕ → ℕ → ℕ

@@ -7,13 +7,13 @@ use Rattle.flux_writer.proofs.track.write_word.Given as goal
 
 abbrev pub invariant-loop-ahead : goal.invariant-loop-ahead
 invariant-loop-ahead g l = record {
-  left : l.left ≤ l.part.to - l.part.from;
-  ahead : l.ahead ≡ word l.cells.cells (l.part.to - l.left) l.left;
+  left : l.left ≤ l.fn.part.to - l.fn.part.from;
+  ahead : l.ahead ≡ word l.cells.cells (l.fn.part.to - l.left) l.left;
   written : IsWritten (g.W.Sink.written l.initial.sink) (g.W.Sink.written l.sink)
       l.initial.stream.piece l.initial.stream.position l.initial.stream.time l.initial.stream.indexes
       l.stream.piece l.stream.position l.stream.time l.stream.indexes
-      (times_between l.cells.cells l.part.from (l.part.to - l.left) l.part.number l.nominal);
-  ready : IsReadyAt l.nominal l.stream.position l.stream.time (l.part.number + ((l.part.to - l.left) - l.part.from)) l.stream.indexes;
+      (times_between l.cells.cells l.fn.part.from (l.fn.part.to - l.left) l.fn.part.number l.nominal);
+  ready : IsReadyAt l.nominal l.stream.position l.stream.time (l.fn.part.number + ((l.fn.part.to - l.left) - l.fn.part.from)) l.stream.indexes;
   counts : Counts false (sink_counts g.W.Sink l.initial.sink) (sink_counts g.W.Sink l.sink);
 }
 

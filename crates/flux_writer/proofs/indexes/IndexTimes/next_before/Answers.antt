@@ -1,13 +1,14 @@
-use Rattle.std.proofs.Common.{sym, ap, ◌∙◌, slice_get, arith}
-use Rattle.flux_writer.proofs.Steps.{count_before-first, count_before-empty}
+use Rattle.std.proofs.Common.{Some, sym, ap, ◌∙◌, arith}
+use Rattle.flux_writer.specs.inside.Writing.{first_or_never}
+use Rattle.flux_writer.proofs.Steps.{count_before-none, first-before}
 use Rattle.flux_writer.proofs.indexes.IndexTimes.next_before.Goals as goal
 
-pub returns-in_err-time-clause-none : goal.returns-in_err-time-clause-none
-returns-in_err-time-clause-none c =
-    rw c.from_residual.ensures (count_before-empty c.args.end c.args.self.now
-    (sym (ap (λ xs. slice_get xs 0) c.self.view_is) ∙ sym c.self.invariant.1 ∙ c.in_err-time.was))
+pub returns-then-self-end-clause-some : goal.returns-then-self-end-clause-some
+returns-then-self-end-clause-some c =
+    let next = c.self.invariant.1 ∙ ap first_or_never c.self.view_is in
+    (first-before c.args.end c.args.self.now (omega arith) (omega (arith, next, c.if-self-end.true)) ∙ ap Some (sym next), c.if-self-end.true)
 
-pub returns-else-time-end-clause-none : goal.returns-else-time-end-clause-none
-returns-else-time-end-clause-none c =
-    count_before-first c.args.end c.in_ok-time.time c.args.self.now
-    (sym (ap (λ xs. slice_get xs 0) c.self.view_is) ∙ sym c.self.invariant.1 ∙ c.in_ok-time.was) (omega arith)
+pub returns-else-self-end-clause-none : goal.returns-else-self-end-clause-none
+returns-else-self-end-clause-none c =
+    let next = c.self.invariant.1 ∙ ap first_or_never c.self.view_is in
+    count_before-none c.args.end c.args.self.now (omega (arith, next, c.if-self-end.false))
