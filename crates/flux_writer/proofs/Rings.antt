@@ -1,12 +1,12 @@
 -- The cells of a ring that are written, part by part.
-use Rattle.std.proofs.Common.{◌≡◌, ◌≤◌, ◌<◌, ◌+◌, ◌-◌, ◌*◌, ◌/◌, ◌++◌, ℕ, zero, suc, Bool, true, false, List, [], ◌∷◌, All, length, map, take, drop, get_or, Option, refl, ap, sym, ◌∙◌, subst, arith, inl, inr, append_assoc, length-append, length-drop}
+use Rattle.std.proofs.Common.{◌≡◌, ◌≤◌, ◌<◌, ◌+◌, ◌-◌, ◌/◌, ◌++◌, ℕ, zero, suc, Bool, true, false, List, [], ◌∷◌, All, length, map, take, drop, get_or, Option, refl, ap, sym, ◌∙◌, subst, arith, inl, inr, length-drop}
 use Rattle.std.specs.List.Sorted.{IsStrictlyIncreasing}
 use Rattle.std.proofs.lemmas.List.{take_all, map-append, length-map, get_or_past}
 use Rattle.std.proofs.lemmas.Bool.{cases_lt}
 use Rattle.flux_writer.specs.Reading.{HasOneAfter}
 use Rattle.flux_base.specs.Outside.{AppendsPart}
 use Rattle.kryo_stream.specs.Sequence.{spellings}
-use Rattle.flux_writer.specs.Written.{cell_time, quarter, track_cells, track_turns, stream_of_times, stream_of_turns}
+use Rattle.flux_writer.specs.Written.{cell_time, quarter, track_turns, stream_of_times, stream_of_turns}
 use Rattle.std.specs.Io.KnownBytes.{Appends}
 use Rattle.flux_writer.specs.inside.Writing.{many_blocks, last_blocks, times_between, IsReadyAt, IsWritten}
 use Rattle.flux_writer.proofs.CellTimes.{cell_time-lt}
