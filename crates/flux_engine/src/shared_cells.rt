@@ -13,7 +13,9 @@ ghost use Rattle.flux_engine.specs.declared.shared_cells.CellSlot.{CellSlot as S
 use crate::capture::{clock_start, recover_from};
 use crate::room::MOST_CELLS;
 use cell_bits::Cells;
+use disk_recordings::{DiskId, controller_format, recording_of};
 use flux_base::{Memory, TrackId};
+use frame_law::Recording;
 use index_turns::TrackFlux;
 use phase_loop::{Band, Loop, LoopStart, recover_in_step};
 use sector_images::Format;
@@ -28,6 +30,9 @@ const FEW_TRANSITIONS: usize = 500_000;
 
 /// The most cells of so few transitions: 2 MB.
 const FEW_CELLS: usize = 32 * FEW_TRANSITIONS;
+
+/// The most kinds of recordings whose headers are sought in the cells of one start: one for each crate of a recording.
+const MOST_MARKS: usize = 6;
 
 /// Cells that a clock recovered, and where it started.
 #[derive(Drop)]
@@ -76,7 +81,8 @@ impl SharedCells {
         self.used = 0;
     }
 
-    /// The slot that has the cells of a stream as this track. They are recovered, unless they are kept.
+    /// The slot that has the cells of a stream as this track. They are recovered, unless they are kept, and places at
+    /// which headers of the format may begin are sought, unless those are.
     pub fn recover(&mut self, format: Format, track: TrackId, flux: &TrackFlux) -> usize
         requires track { IsTrack format track }
         requires bounded { IsBounded flux.now }
@@ -84,11 +90,10 @@ impl SharedCells {
         ensures slot { HoldsIn self.new.slots.items result (start_of format track flux.now.indexes) flux.now.times }
         ensures kept { AreKept self.new.used self.new.slots.items flux.now.times }
     {
-        let start = clock_start(Clock::Following, format, track, flux);
-        match self.slot_of(start) {
-            Some(slot) => slot,
-            None => self.recover_anew(start, flux),
-        }
+        let slot = self.slot_with(clock_start(Clock::Following, format, track, flux), flux);
+        let recording = recording_of(controller_format(format), DiskId::ANY);
+        keep_marks(&recording, &mut self.slots[slot].cells);
+        slot
     }
 
     /// The cells in a slot.
@@ -97,6 +102,20 @@ impl SharedCells {
         ensures { (d : Slot) → result.now ≡ (get_or self.now.slots.items slot d).cells }
     {
         &self.slots[slot].cells
+    }
+
+    /// The slot that has the cells of a start. They are recovered, unless they are kept.
+    fn slot_with(&mut self, start: LoopStart, flux: &TrackFlux) -> usize
+        requires start { IsStart start }
+        requires bounded { IsBounded flux.now }
+        requires kept { AreKept self.old.used self.old.slots.items flux.now.times }
+        ensures slot { HoldsIn self.new.slots.items result start flux.now.times }
+        ensures kept { AreKept self.new.used self.new.slots.items flux.now.times }
+    {
+        match self.slot_of(start) {
+            Some(slot) => slot,
+            None => self.recover_anew(start, flux),
+        }
     }
 
     /// The slot in which the cells of a start are kept, if they are.
@@ -162,6 +181,7 @@ impl CellSlot {
     {
         let mut cells = Cells::new(alloc);
         cells.reserve(most)?;
+        cells.reserve_places(alloc, MOST_MARKS)?;
         Ok(CellSlot { start: None, cells })
     }
 
@@ -197,6 +217,14 @@ impl CellSlot {
         }
         self.start = Some(start);
     }
+}
+
+/// Keeps the places in cells at which headers of a recording may begin, so that they are sought once for all formats
+/// that have such.
+fn keep_marks<R: Recording>(recording: &R, cells: &mut Cells)
+    ensures { cells.new ≡ cells.old }
+{
+    cells.keep_places(recording.sync(), recording.sync_cells());
 }
 
 /// Recovers the cells of a start in a slot, where those in the slots before it are known.
