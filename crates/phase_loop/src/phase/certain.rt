@@ -202,8 +202,8 @@ impl Loop {
             let total = early.count - u64::from(counts[taken]) + count;
             let ticks = times[number] - times[number - INTERVALS];
             let mean = self.window.mean_of(ticks, total);
-            early = early.after(band, fine, length, total, mean);
-            late = late.after(band, fine, length, total, mean);
+            early = Stand::behind(band, early.place + length, fine, total, mean);
+            late = Stand::behind(band, late.place + length, fine, total, mean);
         }
         if early.place < late.place {
             return None;

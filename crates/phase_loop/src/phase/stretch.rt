@@ -206,20 +206,19 @@ impl Loop {
         ensures stretch { TakesRuns times.now last result.1 self.now result.0 counts.new }
     {
         let band = self.start.band;
-        let slack = self.slack();
         let mut stand = self.stand();
         for taken in 0..most {
             let number = last + taken + 1;
             let fine = FINE_PER_TICK * times[number];
             let guess = counts[INTERVALS + taken];
-            let Some((count, length)) = stand.near(fine, guess, slack) else {
+            let Some((count, ahead)) = stand.near(fine, guess) else {
                 return (stand, taken);
             };
             let ticks = times[number] - times[number - INTERVALS];
             let total = stand.count - u64::from(counts[taken]) + count;
             counts[INTERVALS + taken] = count as u8;
             let mean = self.window.mean_of(ticks, total);
-            stand = stand.after(band, fine, length, total, mean);
+            stand = Stand::behind(band, ahead, fine, total, mean);
         }
         (stand, most)
     }
@@ -234,15 +233,6 @@ impl Loop {
             period: self.period,
             count: self.window.cells(),
         }
-    }
-
-    /// How far a time may lie from where a count of cells puts it, so that no other count is as near: half a period,
-    /// where that is the shortest one that a stretch can have.
-    fn slack(&self) -> u64
-        ensures first { 2 * result ≤ self.now.period }
-        ensures later { 2 * result ≤ self.now.band.lowest }
-    {
-        u64::from(self.start.band.lowest).min(self.period) / 2
     }
 }
 
@@ -281,39 +271,38 @@ fn intervals_to(times: &[u64], last: usize, counts: &[u8]) -> [Interval; INTERVA
 }
 
 impl Stand {
-    /// The count of cells to a time, if it is no more than 32, and their length: the guess, where it puts the time
-    /// nearly right. A guess further off than the slack may be right as well, and is counted anew.
-    fn near(self, fine: u64, guess: u8, slack: u64) -> Option<(u64, u64)>
+    /// The count of cells to a time, if it is no more than 32, and the place to which it leads: the guess, where
+    /// that is right.
+    fn near(self, fine: u64, guess: u8) -> Option<(u64, u64)>
         requires fine { fine ≤ 2 ^ 49 }
         requires place { self.place ≤ 2 ^ 50 }
         requires shortest { 1 ≤ self.period }
         requires longest { self.period ≤ 163840 }
-        requires slack { 2 * slack ≤ self.period }
         requires guess { IsRun guess }
         ensures count { IfSome result (λ r. r.0 ≡ max 1 ((2 * (fine - self.place) + self.period) / (2 * self.period))) }
-        ensures length { IfSome result (λ r. r.1 ≡ r.0 * self.period) }
+        ensures ahead { IfSome result (λ r. r.1 ≡ self.place + r.0 * self.period) }
         ensures near { IfSome result (λ r. 2 * (fine - self.place) < 65 * self.period) }
         ensures few { IfSome result (λ r. r.0 ≤ 32) }
     {
         let count = u64::from(guess);
-        let length = count * self.period;
-        if lie_within(self.place + length, fine, slack) {
-            return Some((count, length));
+        let ahead = self.place + count * self.period;
+        if is_nearest(ahead, fine, self.period) {
+            return Some((count, ahead));
         }
         let count = count_of_run(fine.saturating_sub(self.place), self.period)?;
-        Some((count, count * self.period))
+        Some((count, self.place + count * self.period))
     }
 
-    /// The stand at the next transition, where the cells to it have this length, and the window gets this
+    /// The stand at the next transition, where the cells to it put it at the place ahead, and the window gets this
     /// total of cells and this mean.
-    pub(super) fn after(self, band: Band, fine: u64, length: u64, total: u64, mean: u64) -> Stand
+    pub(super) fn behind(band: Band, ahead: u64, fine: u64, total: u64, mean: u64) -> Stand
         requires fine { fine ≤ 2 ^ 49 }
-        requires place { self.place ≤ 2 ^ 50 }
-        requires length { length ≤ 32 * 163840 }
-        ensures { (count : ℕ) → length ≡ count * self.period → result ≡ stand_next band self fine count total mean }
+        requires ahead { ahead ≤ 2 ^ 51 }
+        ensures { (stand : Stand) (count : ℕ) → ahead ≡ stand.place + count * stand.period
+            → result ≡ stand_next band stand fine count total mean }
     {
         Stand {
-            place: (self.place + length + fine) / 2,
+            place: (ahead + fine) / 2,
             period: band.keep(mean),
             count: total,
         }
@@ -336,13 +325,14 @@ fn count_of_run(way: u64, period: u64) -> Option<u64>
     Some(u64::from(count.max(1)))
 }
 
-/// Whether a place and a time are no further apart than the slack.
-fn lie_within(place: u64, fine: u64, slack: u64) -> bool
-    requires place { place ≤ 2 ^ 51 }
+/// Whether a time is no further from a place to which a count of cells leads than half a period, so that no other count
+/// is as near.
+fn is_nearest(ahead: u64, fine: u64, period: u64) -> bool
+    requires ahead { ahead ≤ 2 ^ 51 }
     requires fine { fine ≤ 2 ^ 49 }
-    requires slack { slack ≤ 163840 }
-    ensures { IsTrue result ↔ (place ≤ fine + slack) × (fine < place + slack) }
+    requires period { period ≤ 163840 }
+    ensures { IsTrue result ↔ (2 * ahead ≤ 2 * fine + period) × (2 * fine < 2 * ahead + period) }
 {
-    // Where the place is too far ahead, the difference wraps round, far above twice the slack.
-    (fine + slack).wrapping_sub(place) < 2 * slack
+    // Where the place is too far ahead, the difference wraps round, far above twice the period.
+    (2 * fine + period).wrapping_sub(2 * ahead) < 2 * period
 }

@@ -50,28 +50,41 @@ mean_of-mean-requires-clause-largest c =
     let next = bounded_at _ _ (k + 1) _ _ _ c.requires.rising (c.requires.certain (k + 1) (omega (arith, c.loop-taken-test.true))) in
     omega (arith, next.largest, ap (λ (s : Stand). s.count) (stand_at-more c.args.times.now c.args.last c.args.self.now c.args.counts.now k), c.loop-taken.invariant.ends.count, c.from.ensures, c.from-count.ensures)
 
-pub after-early-requires-clause-length : goal.after-early-requires-clause-length
-after-early-requires-clause-length c =
-    let k : ℕ = c.loop-taken.taken in
-    let here = bounded_at _ _ _ _ _ _ c.requires.rising (c.requires.certain k (omega (arith, c.loop-taken-test.true))) in
-    let short : IsRun (slice_index c.args.counts.now (64 + k)) = guess_short c.args.most c.args.counts.now k c.requires.guesses c.loop-taken-test.true (omega (arith, c.told-counts, c.loop-taken-test.true, c.requires.most)) in
-    let most : c.from-count.result * c.loop-taken.early.period ≤ 32 * c.loop-taken.early.period = mul-le-mul_right c.loop-taken.early.period (omega (arith, c.from-count.ensures, short.1)) in
-    omega (arith, most, here.longest, c.loop-taken.invariant.ends.period)
-
-pub after-late-requires-clause-length : goal.after-late-requires-clause-length
-after-late-requires-clause-length c =
-    let k : ℕ = c.loop-taken.taken in
-    let here = bounded_at _ _ _ _ _ _ c.requires.rising (c.requires.certain k (omega (arith, c.loop-taken-test.true))) in
-    let short : IsRun (slice_index c.args.counts.now (64 + k)) = guess_short c.args.most c.args.counts.now k c.requires.guesses c.loop-taken-test.true (omega (arith, c.told-counts, c.loop-taken-test.true, c.requires.most)) in
-    let most : c.from-count.result * c.loop-taken.early.period ≤ 32 * c.loop-taken.early.period = mul-le-mul_right c.loop-taken.early.period (omega (arith, c.from-count.ensures, short.1)) in
-    omega (arith, most, here.longest, c.loop-taken.invariant.ends.period)
-
-pub after-late-requires-clause-place : goal.after-late-requires-clause-place
-after-late-requires-clause-place c =
+pub overflow_add-early : goal.overflow_add-early
+overflow_add-early c =
     let k : ℕ = c.loop-taken.taken in
     let here = bounded_at _ _ _ _ _ _ c.requires.rising (c.requires.certain k (omega (arith, c.loop-taken-test.true))) in
     let time = c.requires.within (c.args.last + k) 0 (omega (arith, c.requires.inside, c.loop-taken-test.true)) in
-    omega (arith, c.loop-taken.invariant.wide, c.loop-taken.invariant.ends.least, here.place, time, c.requires.near)
+    let short : IsRun (slice_index c.args.counts.now (64 + k)) = guess_short c.args.most c.args.counts.now k c.requires.guesses c.loop-taken-test.true (omega (arith, c.told-counts, c.loop-taken-test.true, c.requires.most)) in
+    let most : c.from-count.result * c.loop-taken.early.period ≤ 32 * c.loop-taken.early.period = mul-le-mul_right c.loop-taken.early.period (omega (arith, c.from-count.ensures, short.1)) in
+    omega (arith, most, here.longest, here.place, time, c.loop-taken.invariant.ends.period, c.loop-taken.invariant.ends.least)
+
+pub behind-early-requires-clause-ahead : goal.behind-early-requires-clause-ahead
+behind-early-requires-clause-ahead c =
+    let k : ℕ = c.loop-taken.taken in
+    let here = bounded_at _ _ _ _ _ _ c.requires.rising (c.requires.certain k (omega (arith, c.loop-taken-test.true))) in
+    let time = c.requires.within (c.args.last + k) 0 (omega (arith, c.requires.inside, c.loop-taken-test.true)) in
+    let short : IsRun (slice_index c.args.counts.now (64 + k)) = guess_short c.args.most c.args.counts.now k c.requires.guesses c.loop-taken-test.true (omega (arith, c.told-counts, c.loop-taken-test.true, c.requires.most)) in
+    let most : c.from-count.result * c.loop-taken.early.period ≤ 32 * c.loop-taken.early.period = mul-le-mul_right c.loop-taken.early.period (omega (arith, c.from-count.ensures, short.1)) in
+    omega (arith, most, here.longest, here.place, time, c.loop-taken.invariant.ends.period, c.loop-taken.invariant.ends.least)
+
+pub overflow_add-late-in-loop-taken : goal.overflow_add-late-in-loop-taken
+overflow_add-late-in-loop-taken c =
+    let k : ℕ = c.loop-taken.taken in
+    let here = bounded_at _ _ _ _ _ _ c.requires.rising (c.requires.certain k (omega (arith, c.loop-taken-test.true))) in
+    let time = c.requires.within (c.args.last + k) 0 (omega (arith, c.requires.inside, c.loop-taken-test.true)) in
+    let short : IsRun (slice_index c.args.counts.now (64 + k)) = guess_short c.args.most c.args.counts.now k c.requires.guesses c.loop-taken-test.true (omega (arith, c.told-counts, c.loop-taken-test.true, c.requires.most)) in
+    let most : c.from-count.result * c.loop-taken.early.period ≤ 32 * c.loop-taken.early.period = mul-le-mul_right c.loop-taken.early.period (omega (arith, c.from-count.ensures, short.1)) in
+    omega (arith, most, here.longest, here.place, time, c.loop-taken.invariant.ends.period, c.loop-taken.invariant.ends.least, c.loop-taken.invariant.wide, c.requires.near)
+
+pub behind-late-requires-clause-ahead : goal.behind-late-requires-clause-ahead
+behind-late-requires-clause-ahead c =
+    let k : ℕ = c.loop-taken.taken in
+    let here = bounded_at _ _ _ _ _ _ c.requires.rising (c.requires.certain k (omega (arith, c.loop-taken-test.true))) in
+    let time = c.requires.within (c.args.last + k) 0 (omega (arith, c.requires.inside, c.loop-taken-test.true)) in
+    let short : IsRun (slice_index c.args.counts.now (64 + k)) = guess_short c.args.most c.args.counts.now k c.requires.guesses c.loop-taken-test.true (omega (arith, c.told-counts, c.loop-taken-test.true, c.requires.most)) in
+    let most : c.from-count.result * c.loop-taken.early.period ≤ 32 * c.loop-taken.early.period = mul-le-mul_right c.loop-taken.early.period (omega (arith, c.from-count.ensures, short.1)) in
+    omega (arith, most, here.longest, here.place, time, c.loop-taken.invariant.ends.period, c.loop-taken.invariant.ends.least, c.loop-taken.invariant.wide, c.requires.near)
 
 pub loop-taken-preserved : goal.loop-taken-preserved
 loop-taken-preserved c =
@@ -102,12 +115,12 @@ loop-taken-preserved c =
     ∙ ap (λ (m : ℕ). stand_next state.band s fine (slice_index counts (64 + k)) m mean) total_is
     ∙ ap (λ (m : ℕ). stand_next state.band s fine (slice_index counts (64 + k)) total_now m) mean_is
     ∙ sym (stand_at-more times last state counts k) in
-    let early_is : c.after-early.result ≡ stand_next band early fine n total mean = c.after-early.ensures n refl in
+    let early_is : c.behind-early.result ≡ stand_next band early fine n total mean = c.behind-early.ensures early n refl in
     let periods : early.period ≡ late.period = ends.period ∙ sym ends.late_period in
-    let late_is : c.after-late.result ≡ stand_next band late fine n total mean = c.after-late.ensures n (ap (λ (p : ℕ). n * p) periods) in
+    let late_is : c.behind-late.result ≡ stand_next band late fine n total mean = c.behind-late.ensures late n (ap (λ (p : ℕ). late.place + n * p) periods) in
     let P : Stand → Type 0 = λ x. AreEnds (stand_next band early fine n total mean) (stand_next band late fine n total mean) x in
     let Q : Stand → Type 0 = λ x. AreEnds (stand_next band early fine n total mean) x (stand_at times last state counts (k + 1)) in
-    let R : Stand → Type 0 = λ x. AreEnds x c.after-late.result (stand_at times last state counts (k + 1)) in
+    let R : Stand → Type 0 = λ x. AreEnds x c.behind-late.result (stand_at times last state counts (k + 1)) in
     record {
       ends = subst R (sym early_is) (subst Q (sym late_is) (subst P same (ends_more band early late s fine n total mean ends)));
       wide = omega (arith, ap (λ (x : Stand). x.place) early_is, ap (λ (x : Stand). x.place) late_is, ap (λ (p : ℕ). n * p) periods, c.loop-taken.invariant.wide);

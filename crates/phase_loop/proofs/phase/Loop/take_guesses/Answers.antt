@@ -15,7 +15,6 @@ loop-taken-init c =
     record {
       whole = omega arith;
       guesses = c.requires.guesses;
-      slack = omega (arith, c.slack-slack.ensures.first, c.stand-stand.ensures.place.1);
       stretch = λ cells short.
           rw here (stretch_with _ _ _ _ _ _ _ _ _
           (stretch_begins _ _ _ _ _ cells c.requires.rising (omega (arith, c.requires.inside)) c.requires.here c.requires.full c.requires.window c.requires.counts
@@ -80,22 +79,17 @@ overflow_sub-ticks-in-loop-taken c =
     let up = c.requires.rising (c.args.last + c.loop-taken.taken + 1 - 64) (c.args.last + c.loop-taken.taken + 1) 0 (omega arith) (omega (arith, c.loop-taken-test.true, c.requires.inside)) in
     omega (arith, up)
 
-pub after-stand-requires-clause-fine : goal.after-stand-requires-clause-fine
-after-stand-requires-clause-fine c =
+pub behind-stand-requires-clause-fine : goal.behind-stand-requires-clause-fine
+behind-stand-requires-clause-fine c =
     let time = c.requires.within (c.args.last + c.loop-taken.taken + 1) 0 (omega (arith, c.loop-taken-test.true, c.requires.inside)) in
     omega (arith, time)
 
-pub after-stand-requires-clause-place : goal.after-stand-requires-clause-place
-after-stand-requires-clause-place c =
+pub behind-stand-requires-clause-ahead : goal.behind-stand-requires-clause-ahead
+behind-stand-requires-clause-ahead c =
     let s = c.loop-taken.invariant.stretch no_cells (omega arith) in
     let time = c.requires.within (c.args.last + c.loop-taken.taken) 0 s.inside in
-    omega (arith, time, s.place)
-
-pub after-stand-requires-clause-length : goal.after-stand-requires-clause-length
-after-stand-requires-clause-length c =
-    let s = c.loop-taken.invariant.stretch no_cells (omega arith) in
     let most : c.in-Some.count * c.loop-taken.stand.period ≤ 32 * c.loop-taken.stand.period = mul-le-mul_right c.loop-taken.stand.period c.in-Some.ensures.few in
-    omega (arith, most, s.longest, c.in-Some.ensures.length)
+    omega (arith, most, s.longest, time, s.place, c.in-Some.ensures.ahead)
 
 pub loop-taken-preserved : goal.loop-taken-preserved
 loop-taken-preserved c =
@@ -107,6 +101,7 @@ loop-taken-preserved c =
     let counts : List ℕ = set c.loop-taken.counts (64 + c.loop-taken.taken) c.in-Some.count in
     let room_for : 64 + c.loop-taken.taken < length c.loop-taken.counts = omega (arith, c.loop-taken.invariant.whole, c.loop-taken-test.true, c.requires.most) in
     let number : c.args.last + (c.loop-taken.taken + 1) ≡ here + 1 = omega arith in
+    let stand_is = c.behind-stand.ensures c.loop-taken.stand c.in-Some.count c.in-Some.ensures.ahead in
     let band_is : c.self.inside.start.band ≡ c.args.self.now.band = ap (λ (s : LoopState). s.band) c.self.view_is in
     let band : IsBand c.args.self.now.band = rw (← band_is) (start_band c.self.inside.start c.self.invariant.start) in
     let ticks : 1024 * (slice_index c.args.times.now (here + 1) - slice_index c.args.times.now (here + 1 - 64)) ≡ 1024 * slice_index c.args.times.now (here + 1) - 1024 * slice_index c.args.times.now (here + 1 - 64) = omega arith in
@@ -117,13 +112,12 @@ loop-taken-preserved c =
     record {
       whole = omega (arith, c.loop-taken.invariant.whole, length-set c.loop-taken.counts (64 + c.loop-taken.taken) c.in-Some.count);
       guesses = guess_right c.args.most c.loop-taken.counts c.loop-taken.taken c.in-Some.count c.loop-taken.invariant.guesses (omega (arith, c.in-Some.ensures.count), c.in-Some.ensures.few);
-      slack = rw (c.after-stand.ensures c.in-Some.count c.in-Some.ensures.length, band_is) (omega (arith, c.slack-slack.ensures.later));
       stretch = λ cells short.
           let now : CellsState = with_runs cells (take c.loop-taken.taken (drop 64 c.loop-taken.counts)) in
           let longer : CellsState = with_runs cells (take (c.loop-taken.taken + 1) (drop 64 counts)) in
           let longer_are = runs_more cells c.loop-taken.counts c.loop-taken.taken c.in-Some.count room_for in
           let P : List ℕ → Type 0 = λ l. IsStretch c.args.times.now c.args.last here c.args.self.now c.loop-taken.stand l cells now in
-          rw (number, c.after-stand.ensures c.in-Some.count c.in-Some.ensures.length, c.mean_of-mean.ensures, ticks, c.from.ensures, band_is, next.shift.now)
+          rw (number, stand_is, c.mean_of-mean.ensures, ticks, c.from.ensures, band_is, next.shift.now)
           (stretch_more _ _ _ _ _ totals oldest c.in-Some.count next.shift.rest cells now longer c.requires.rising band
           (subst P next.shift.was (c.loop-taken.invariant.stretch cells short))
           (omega (arith, c.loop-taken-test.true, c.requires.inside)) next.exchange refl

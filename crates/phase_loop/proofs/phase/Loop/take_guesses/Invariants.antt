@@ -6,6 +6,5 @@ abbrev pub invariant-loop-taken : goal.invariant-loop-taken
 invariant-loop-taken l = record {
   whole : length l.counts ≡ 2112;
   guesses : AreGuessed l.most l.counts;
-  slack : 2 * l.slack ≤ l.stand.period;
   stretch : TakesRuns l.times l.last l.taken l.self l.stand l.counts;
 }
