@@ -3,7 +3,7 @@ ghost use Rattle.std.specs.Prelude.{◌≤◌};
 
 use crate::window::STRETCH;
 
-/// The most transitions of a stretch where the one before was not certain, and for how many it is
+/// The most transitions of a stretch that is tried where the last one tried was not certain, and for how many it is
 /// not tried after the first such.
 const SHORTER: usize = 512;
 
@@ -28,12 +28,13 @@ impl Doubt {
         number < self.end
     }
 
-    /// The most transitions of the next stretch: what is done for those behind noise is done in vain.
-    pub(crate) fn longest_stretch(self) -> usize
+    /// The most transitions of the stretch that begins at this one: behind noise those for which it is not tried, or
+    /// few, since what is tried there is mostly in vain.
+    pub(crate) fn longest_stretch(self, number: usize) -> usize
         ensures { result ≤ 2048 }
     {
         if self.length > 0 {
-            return SHORTER;
+            return self.end.saturating_sub(number).max(SHORTER).min(STRETCH);
         }
         STRETCH
     }

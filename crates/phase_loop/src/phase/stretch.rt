@@ -138,7 +138,7 @@ impl Loop {
         ensures room { room cells.old ≤ room cells.new }
         ensures succeeds { 32 * length times.now ≤ room cells.old → IsOk result }
     {
-        let most = self.doubt.longest_stretch().min(times.len() - 1 - last);
+        let most = self.doubt.longest_stretch(last).min(times.len() - 1 - last);
         let mut ticks = [0; INTERVALS + STRETCH];
         put_ticks(times, last - INTERVALS, INTERVALS + most, &mut ticks);
         Guess::by(self.period).put_counts(
