@@ -1,5 +1,6 @@
 pub mod Founds
 pub mod HeldStreams
+pub mod Losses
 pub mod Means
 pub mod Middles
 pub mod One

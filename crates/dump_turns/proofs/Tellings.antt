@@ -7,7 +7,7 @@ use Rattle.track_shelf.specs.Files.{File}
 use Rattle.dump_reading.specs.Files.{ShelfNow}
 use Rattle.dump_turns.specs.Files.{AreFound, means_in}
 use Rattle.dump_turns.specs.Lines.{end_text, file_lines, totals_of}
-use Rattle.dump_turns.specs.Outcomes.{HasFoundAll, IsReachTold, WroteIntoEnd, WroteIntoFile, WroteTurns}
+use Rattle.dump_turns.specs.Outcomes.{HasFoundAll, HasMeasured, IsReachTold, WroteIntoEnd, WroteIntoFile, WroteTurns}
 use Rattle.dump_turns.specs.Reaches.{IsBoundedReach, IsReachOf}
 use Rattle.dump_turns.specs.Spreads.{IsSpreadOf}
 use Rattle.dump_turns.specs.declared.found.Found.{Found}
@@ -16,6 +16,7 @@ use Rattle.dump_turns.specs.declared.spread.Spread.{Spread}
 use Rattle.dump_turns.specs.declared.totals.TurnTotals.{TurnTotals}
 use Rattle.dump_turns.specs.inside.Told.{CutFile, ToldAll}
 use Rattle.dump_turns.proofs.Founds.{and-part}
+use Rattle.dump_turns.proofs.Losses.{lost-in}
 
 -- how far the files reach, where they are told
 pub reach-told : (told : Option (List File)) (dump : List ℕ) (reach : Option Reach) → ((files : List File) → told ≡ Some files → IsReachOf files dump reach) → IsReachTold told dump reach
@@ -45,6 +46,15 @@ module _ (dump : List ℕ) (start now : ShelfNow) (reach : Reach) (is : IsReachT
       found = record { reach_is = is; bounded = bounded; few = (let all = told.all in omega (arith, all)); are = are };
       all = told.all;
       apart = apart;
+    }
+
+    -- all were measured
+    pub all-measured : (totals : TurnTotals) → totals ≡ totals_of founds spread → HasMeasured dump start now founds (record { reach = reach; spread = spread; totals = totals })
+    unfolding all-found
+    all-measured totals same = record {
+      all = all-found;
+      totals_are = same;
+      lost = lost-in are.came founds spread totals same are.many are.told;
     }
 
     -- the lines behind those of the files were

@@ -114,6 +114,12 @@ abbrev pub is_far : Option Spread → Found → Bool
 is_far spread (PassedOver why) = false
 is_far spread (Read turns) = is_far_from spread (mean_of turns)
 
+-- the mean of a file, where it is far from the median
+abbrev pub uneven_mean : Option Spread → Found → Option ℕ
+uneven_mean spread (PassedOver why) = None
+uneven_mean spread (Read turns) =
+    if is_far_from spread (mean_of turns) then Some (mean_of turns) else None
+
 -- how many of each kind there are
 abbrev pub totals_of : List Found → Option Spread → TurnTotals
 totals_of founds spread =

@@ -4,6 +4,7 @@ use Rattle.std.specs.Prelude.{◌≡◌, ◌≤◌, ◌⊎◌, ℕ, List, [], �
 use Rattle.std.specs.Prelude.{Result, Ok, Err}
 use Rattle.std.specs.Io.KnownBytes.{Appends, Keeps}
 use Rattle.flux_engine.specs.Answers.{AppendsAndPart}
+use Rattle.flux_engine.specs.LoopProgress.{lost_count}
 use Rattle.track_shelf.specs.Files.{File}
 use Rattle.flux_engine.specs.declared.fault.Stopped.{Stopped}
 use Rattle.flux_engine.specs.declared.fault.Stopped.TheVariants.{ReadFault, ImageFault}
@@ -15,6 +16,7 @@ use Rattle.dump_turns.specs.Lines.{end_text, file_lines, found_text, totals_of}
 use Rattle.dump_turns.specs.Reaches.{IsBoundedReach, IsReachOf, count_in, track_number}
 use Rattle.dump_turns.specs.Spreads.{IsSpreadOf}
 use Rattle.dump_turns.specs.declared.found.Found.{Found}
+use Rattle.dump_turns.specs.declared.measured.DumpTurns.{DumpTurns}
 use Rattle.dump_turns.specs.declared.reach.Reach.{Reach}
 use Rattle.dump_turns.specs.declared.spread.Spread.{Spread}
 use Rattle.dump_turns.specs.declared.totals.TurnTotals.{TurnTotals}
@@ -38,6 +40,20 @@ pub record HasFoundAll (dump : List ℕ) (start now : ShelfNow) (reach : Reach)
   pub found : HasFound dump start now reach founds
   pub all : length founds ≡ count_in reach
   pub apart : IsSpreadOf (means_in founds) spread
+
+-- They were measured, and counted; as many failed as reading them says.
+pub record HasMeasured (dump : List ℕ) (start now : ShelfNow) (founds : List Found)
+    (turns : DumpTurns) : Type 0 where
+  pub all : HasFoundAll dump start now turns.reach founds turns.spread
+  pub totals_are : turns.totals ≡ totals_of founds turns.spread
+  pub lost : turns.totals.failed ≡ lost_count all.found.are.came
+
+-- what measuring says; of a dump without files nothing was read
+abbrev pub SaysOfMeasuring : (dump : List ℕ) → (start now : ShelfNow) → List Found
+    → Option DumpTurns → Type 0
+SaysOfMeasuring dump start now founds None =
+    IsReachTold start.told.files dump None × (now ≡ start)
+SaysOfMeasuring dump start now founds (Some turns) = HasMeasured dump start now founds turns
 
 -- all lines were written
 pub record WroteTurns (dump : List ℕ) (start now : ShelfNow) (lines lines' : Option (List ℕ))

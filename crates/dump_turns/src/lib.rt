@@ -6,6 +6,7 @@ mod files;
 mod found;
 mod laws;
 mod lines;
+mod measured;
 mod measuring;
 mod reach;
 mod room;
@@ -15,6 +16,7 @@ mod totals;
 
 pub use found::{FileTurns, Found};
 pub use laws::turns_are_one;
+pub use measured::{DumpTurns, measure_turns};
 pub use reach::{Reach, find_reach};
 pub use room::TurnsRoom;
 pub use spread::Spread;

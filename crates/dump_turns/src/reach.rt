@@ -20,7 +20,7 @@ pub struct Reach {
 
 impl Reach {
     /// How many tracks there are.
-    pub(crate) fn count(self) -> u8
+    pub fn count(self) -> u8
         requires { IsBoundedReach self }
         ensures { result ≡ count_in self }
     {
@@ -28,7 +28,7 @@ impl Reach {
     }
 
     /// The track of a number: cylinder by cylinder, head by head.
-    pub(crate) fn track(self, number: u8) -> TrackId
+    pub fn track(self, number: u8) -> TrackId
         requires { IsBoundedReach self }
         ensures { result ≡ track_number self number }
     {

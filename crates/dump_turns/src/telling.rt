@@ -1,6 +1,6 @@
 //! The revolutions of all files of a dump.
 
-ghost use Rattle.std.specs.Prelude.{◌≡◌, ◌≤◌, ◌<◌, [], All, is_err, length, IfSome};
+ghost use Rattle.std.specs.Prelude.{◌≡◌, ◌≤◌, ◌<◌, All, is_err, length, IfSome};
 ghost use Rattle.std.specs.Vec.{vec_capacity};
 ghost use Rattle.flux_base.specs.Blames.{CountsBy, no_counts, three_counts};
 ghost use Rattle.flux_base.specs.Counts.{Counts};
@@ -76,8 +76,8 @@ pub fn tell_turns<H: Shelf, W: Sink>(
     }
 }
 
-/// Reads all files, and writes their lines.
-fn tell_files<H: Shelf, W: Sink>(
+/// Reads all files, and writes their lines. What was found before is forgotten.
+pub(crate) fn tell_files<H: Shelf, W: Sink>(
     dump: &Word,
     reach: Reach,
     buffer: &mut [u8],
@@ -88,14 +88,16 @@ fn tell_files<H: Shelf, W: Sink>(
 ) -> Result<(), Failed>
     requires buffer { length buffer.old ≡ 8388608 }
     requires reach { IsBoundedReach reach }
-    requires none { founds.old.items ≡ [] }
     requires room { 198 ≤ vec_capacity founds.old }
     ensures found { AreFound dump.now reach (shelf_at H.Source H.Shelf.own shelf.old)
         (shelf_at H.Source H.Shelf.own shelf.new) founds.new.items }
     ensures bounded { All IsBoundedFound founds.new.items }
     ensures written { FoundInto reach (W.written lines.old) (W.written lines.new) founds.new.items result }
     ensures counts { Counts (is_err result) (sink_counts W.Sink lines.old) (sink_counts W.Sink lines.new) }
+    ensures buffer { length buffer.new ≡ length buffer.old }
+    ensures room { 198 ≤ vec_capacity founds.new }
 {
+    founds.clear();
     for number in 0..reach.count() {
         let track = reach.track(number);
         let found = find_one(dump.bytes(), track, buffer, stream, shelf);
@@ -123,13 +125,15 @@ fn write_found<W: Sink>(track: TrackId, found: &Found, lines: &mut W) -> Result<
 }
 
 /// How far the means of the files that are read lie apart. The means are taken and put in order.
-fn spread_among(founds: &[Found], means: &mut Vec<u64>) -> Option<Spread>
+pub(crate) fn spread_among(founds: &[Found], means: &mut Vec<u64>) -> Option<Spread>
     requires bounded { All IsBoundedFound founds.now }
-    requires none { means.old.items ≡ [] }
-    requires room { length founds.now ≤ vec_capacity means.old }
+    requires few { length founds.now ≤ 198 }
+    requires room { 198 ≤ vec_capacity means.old }
     ensures is { IsSpreadOf (means_in founds.now) result }
     ensures bounded { IfSome result IsBoundedSpread }
+    ensures room { 198 ≤ vec_capacity means.new }
 {
+    means.clear();
     for number in 0..founds.len() {
         match &founds[number] {
             Found::Read(turns) => means.push_reserved(turns.mean()),
@@ -229,7 +233,7 @@ fn write_if_uneven<W: Sink>(
 }
 
 /// Counts the files of each kind.
-fn totals(founds: &[Found], spread: &Option<Spread>) -> TurnTotals
+pub(crate) fn totals(founds: &[Found], spread: &Option<Spread>) -> TurnTotals
     requires few { length founds.now ≤ 198 }
     requires bounded { All IsBoundedFound founds.now }
     requires spread { IfSome spread.now IsBoundedSpread }

@@ -53,7 +53,7 @@ impl TurnTotals {
 }
 
 /// Whether a mean is far from the median, if there is one.
-fn is_far(mean: u64, spread: &Option<Spread>) -> bool
+pub(crate) fn is_far(mean: u64, spread: &Option<Spread>) -> bool
     requires mean { mean < 1000000000000 }
     requires spread { IfSome spread.now IsBoundedSpread }
     ensures { result ≡ is_far_from spread.now mean }

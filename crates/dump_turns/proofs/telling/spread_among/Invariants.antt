@@ -10,5 +10,5 @@ invariant-loop-number l = record {
   are : l.means.items ≡ means_in (take l.number l.founds);
   many : length l.means.items ≤ l.number;
   small : All IsSmallMean l.means.items;
-  room : length l.founds ≤ vec_capacity l.means;
+  room : 198 ≤ vec_capacity l.means;
 }

@@ -1,4 +1,4 @@
-use Rattle.std.proofs.Common.{◌≡◌, ◌+◌, ◌∙◌, ◌∷◌, [], length, ap, arith, length-append}
+use Rattle.std.proofs.Common.{◌≡◌, ◌+◌, ◌∙◌, ◌∷◌, [], length, sym, ap, arith, length-append}
 use Rattle.std.proofs.lemmas.List.Elements.{All-push}
 use Rattle.std.proofs.KnownBytes.{Appends-nil}
 use Rattle.flux_base.specs.World.{sink_counts}
@@ -10,12 +10,12 @@ use Rattle.dump_turns.proofs.telling.tell_files.Goals as goal
 
 pub loop-number-init : goal.loop-number-init
 loop-number-init g c = record {
-  found = rw c.requires.none (none-found c.args.dump.now c.args.reach (shelf_at g.H.Source g.H.Shelf c.args.shelf.now));
-  many = ap length c.requires.none;
-  room = c.requires.room;
-  bounded = rw c.requires.none (λ k d below. absurd (omega (arith, below)));
+  found = rw c.clear.ensures.items (none-found c.args.dump.now c.args.reach (shelf_at g.H.Source g.H.Shelf c.args.shelf.now));
+  many = ap length c.clear.ensures.items;
+  room = (let room = c.requires.room in let capacity = c.clear.ensures.capacity in omega (arith, room, capacity));
+  bounded = rw c.clear.ensures.items (λ k d below. absurd (omega (arith, below)));
   buffer = c.requires.buffer;
-  grew = rw c.requires.none (Appends-nil (g.W.Sink.written c.args.lines.now));
+  grew = rw c.clear.ensures.items (Appends-nil (g.W.Sink.written c.args.lines.now));
   counts = Counts-none (sink_counts g.W.Sink c.args.lines.now);
 }
 
@@ -64,4 +64,6 @@ returns-in-Err g c =
             (g.W.Sink.written c.write_found.new.lines) so_far.grew c.in-Err.ensures.err;
       };
       counts = Counts-then _ so_far.counts c.in-Err.ensures.counts;
+      buffer = c.find_one-found.ensures.len ∙ so_far.buffer ∙ sym c.requires.buffer;
+      room = (let capacity = c.push_reserved.ensures.capacity in let room = so_far.room in omega (arith, capacity, room));
     }
