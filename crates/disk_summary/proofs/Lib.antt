@@ -5,4 +5,5 @@ pub mod Whole
 pub mod Parsed
 pub mod Lists
 pub mod Tracks
+pub mod TurnNotes
 pub mod Dumps

@@ -12,7 +12,7 @@ use Rattle.turn_merge.specs.declared.verdict.Place.{Place}
 use Rattle.disk_map.specs.declared.kind.Kind.TheVariants.{Good, Contradictory, Bad, Missing}
 use Rattle.disk_summary.specs.Texts.{note_text}
 use Rattle.disk_summary.specs.declared.note.Note.{Note}
-use Rattle.disk_summary.specs.declared.note.Note.TheVariants.{Other, Sector, Unread, Untold}
+use Rattle.disk_summary.specs.declared.note.Note.TheVariants.{Other, Sector, Uneven, Unread, Untold}
 use Rattle.disk_summary.specs.inside.Pieces.{four_piece, name_piece, reason_piece, refused_piece, refused_scp_piece, track_piece, written_piece}
 use Rattle.disk_summary.proofs.Joined.{before, chain-past, quoted-past}
 use Rattle.disk_summary.proofs.Plain.{plain-fault, plain-scp-fault}
@@ -66,4 +66,6 @@ written_is (Sector track sector Contradictory) = track-past track (codes ",\"sec
 written_is (Sector track sector Bad) = track-past track (codes ",\"sector\":" ++ (decimal sector ++ codes ",\"verdict\":\"bad\"}"))
 written_is (Sector track sector Missing) = track-past track (codes ",\"sector\":" ++ (decimal sector ++ codes ",\"verdict\":\"missing\"}"))
 written_is (Untold track) = track-past track (codes ",\"untold\":true}")
+written_is (Uneven track dump ticks) =
+    track-past track (codes ",\"dump\":" ++ (decimal dump ++ (codes ",\"uneven\":" ++ (decimal ticks ++ codes "}"))))
 written_is (Other track told) = other_is track told.name told.headers told.whole told.first

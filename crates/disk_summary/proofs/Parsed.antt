@@ -16,7 +16,7 @@ use Rattle.disk_summary.specs.Laws.{NoteFits, ReasonFits, SummariesParse, Summar
 use Rattle.disk_summary.specs.Texts.{line_text}
 use Rattle.disk_summary.specs.Values.{count, note_value, reason_members, summary_value}
 use Rattle.disk_summary.specs.declared.note.Note.{Note}
-use Rattle.disk_summary.specs.declared.note.Note.TheVariants.{Other, Sector, Unread, Untold}
+use Rattle.disk_summary.specs.declared.note.Note.TheVariants.{Other, Sector, Uneven, Unread, Untold}
 use Rattle.disk_summary.specs.declared.summary.Summary.{Summary}
 
 numbers-counts : (ns : List ℕ) → All (λ n. n < 2 ^ 64) ns → ItemsHaveNumbers (items_of (map count ns))
@@ -38,6 +38,8 @@ numbers-note (Sector track sector kind) (t, n) =
 numbers-note (Other track told) (t, n, h, w) =
     (IsNumber-decimal track.cylinder t.0, (IsNumber-decimal track.head t.1, (numbers-counts _ n, (IsNumber-decimal told.headers h, (IsNumber-decimal told.whole w, tt)))))
 numbers-note (Untold track) t = (IsNumber-decimal track.cylinder t.0, (IsNumber-decimal track.head t.1, (tt, tt)))
+numbers-note (Uneven track dump ticks) (t, d, n) =
+    (IsNumber-decimal track.cylinder t.0, (IsNumber-decimal track.head t.1, (IsNumber-decimal dump d, (IsNumber-decimal ticks n, tt))))
 
 numbers-notes : (notes : List Note) → All NoteFits notes → ItemsHaveNumbers (items_of (map note_value notes))
 numbers-notes [] fit = tt
@@ -109,6 +111,7 @@ depth-note (Unread track dump why) = rw (depth-reason why) (omega arith)
 depth-note (Sector track sector kind) = omega arith
 depth-note (Other track told) = rw (depth-counts _) (omega arith)
 depth-note (Untold track) = omega arith
+depth-note (Uneven track dump ticks) = omega arith
 
 depth-notes : (notes : List Note) → items_depth (items_of (map note_value notes)) ≤ 2
 depth-notes [] = omega arith

@@ -9,7 +9,7 @@ use Rattle.sector_report.specs.declared.totals.Totals.{Totals}
 use Rattle.disk_summary.specs.Texts.{line_text}
 use Rattle.disk_summary.specs.Values.{name_numbers, summary_value}
 use Rattle.disk_summary.specs.declared.note.Note.{Note}
-use Rattle.disk_summary.specs.declared.note.Note.TheVariants.{Other, Sector, Unread, Untold}
+use Rattle.disk_summary.specs.declared.note.Note.TheVariants.{Other, Sector, Uneven, Unread, Untold}
 use Rattle.disk_summary.specs.declared.summary.Summary.{Summary}
 
 -- numbers that fit in 64 bits
@@ -29,6 +29,7 @@ NoteFits (Other track told) =
     TrackFits track × All (λ n. n < 2 ^ 64) (name_numbers told.name) × (told.headers < 2 ^ 64)
     × (told.whole < 2 ^ 64)
 NoteFits (Untold track) = TrackFits track
+NoteFits (Uneven track dump ticks) = TrackFits track × (dump < 2 ^ 64) × (ticks < 2 ^ 64)
 
 pub record SectorsFit (totals : Totals) : Type 0 where
   pub all_fit : totals.sectors < 2 ^ 64

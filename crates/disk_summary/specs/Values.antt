@@ -21,7 +21,7 @@ use Rattle.flux_help.specs.Pages.{number_text}
 use Rattle.dump_reading.specs.declared.totals.DumpTotals.{DumpTotals}
 use Rattle.disk_map.specs.Looks.{name_of}
 use Rattle.disk_summary.specs.declared.note.Note.{Note}
-use Rattle.disk_summary.specs.declared.note.Note.TheVariants.{Other, Sector, Unread, Untold}
+use Rattle.disk_summary.specs.declared.note.Note.TheVariants.{Other, Sector, Uneven, Unread, Untold}
 use Rattle.disk_summary.specs.declared.summary.Summary.{Summary}
 
 -- a number, in decimal digits
@@ -66,6 +66,9 @@ note_members (Other track told) =
     (member (codes "headers") (count told.headers)
     (member (codes "whole") (count told.whole) no_members)))
 note_members (Untold track) = of_track track (member (codes "untold") (boolean true) no_members)
+note_members (Uneven track dump ticks) =
+    of_track track
+    (member (codes "dump") (count dump) (member (codes "uneven") (count ticks) no_members))
 
 abbrev pub note_value : Note → Json
 note_value note = object (note_members note)

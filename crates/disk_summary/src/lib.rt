@@ -1,10 +1,10 @@
 //! The summary of a disk that is read of its dumps: one line of JSON (RFC 8259) that another program reads. It has the
-//! numbers of the report, and a note of each file that was passed over, of each sector that is not good, and of each
-//! other header with data.
+//! numbers of the report, and a note of each file that was passed over, of each sector that is not good, of each other
+//! header with data, and of each file that turned otherwise than the others of its dump.
 //!
 //! The text is what the kit's `json` prints for a value, so that it parses to this value. The notes are written as the
-//! tracks are read (`draw_noted_dumps`), each with a comma before it, since a track's writer knows no other track; the
-//! summary takes them without the first comma (`write_summary`).
+//! tracks are read (`draw_noted_dumps`), each with a comma before it, since a track's writer knows no other track.
+//! Those of turns stand behind them (`note_turns`). The summary takes all without the first comma (`write_summary`).
 #![tactic(auto)]
 
 mod laws;
@@ -12,8 +12,10 @@ mod note;
 mod note_writer;
 mod reading;
 mod summary;
+mod turn_notes;
 
 pub use laws::summaries_parse;
 pub use note::{Note, note_piece};
 pub use reading::draw_noted_dumps;
 pub use summary::{Summary, write_summary};
+pub use turn_notes::note_turns;

@@ -6,7 +6,7 @@ ghost use Rattle.disk_summary.specs.Texts.{note_text};
 ghost use Rattle.disk_summary.specs.inside.Pieces.{name_piece, reason_piece, refused_piece, refused_scp_piece};
 ghost use Rattle.disk_summary.specs.inside.Pieces.{track_piece, two_piece};
 ghost use Rattle.disk_summary.specs.inside.Pieces.{written_piece};
-ghost use Rattle.disk_summary.specs.declared.note.Note.TheVariants.{Other, Sector, Unread, Untold};
+ghost use Rattle.disk_summary.specs.declared.note.Note.TheVariants.{Other, Sector, Uneven, Unread, Untold};
 
 use disk_map::{Kind, name_of};
 use flux_base::{HeaderName, TrackId};
@@ -15,7 +15,7 @@ use scp_files::ScpTrackFault;
 use sector_report::{Line, Passed, put, put_fault, put_named, put_scp_fault, put_u64};
 use turn_merge::OtherTold;
 
-/// A note of a track.
+/// A note of a track, or of a file.
 #[derive(Clone, Copy, Debug, PartialEq, Eq)]
 pub enum Note {
     /// A dump's file of the track was passed over.
@@ -40,6 +40,14 @@ pub enum Note {
     Untold {
         track: TrackId,
     },
+    /// The mean revolution of a dump's file is more than 5 in 1000 from the median of all files of this dump.
+    Uneven {
+        track: TrackId,
+        /// The dump's number, from 0.
+        dump: u8,
+        /// The mean, whole ticks.
+        ticks: u64,
+    },
 }
 
 /// The text of a note, with a comma before it. (It is put together as `written_piece` says.)
@@ -55,6 +63,7 @@ pub fn note_piece(note: &Note) -> Line
         } => sector_piece(track, sector, kind),
         Note::Other { track, told } => other_piece(track, &told),
         Note::Untold { track } => untold_piece(track),
+        Note::Uneven { track, dump, ticks } => uneven_piece(track, dump, ticks),
     }
 }
 
@@ -106,6 +115,19 @@ fn untold_piece(track: TrackId) -> Line
     let mut line = Line::new();
     put_track(&mut line, track);
     put(&mut line, ",\"untold\":true}");
+    line
+}
+
+/// That of a file that turned otherwise than the others.
+#[tactic(auto, unfolding(crate::specs::inside::Pieces::written_piece))]
+fn uneven_piece(track: TrackId, dump: u8, ticks: u64) -> Line
+    ensures { result.bytes ≡ written_piece (Uneven track dump ticks) }
+{
+    let mut line = Line::new();
+    put_track(&mut line, track);
+    put_named(&mut line, ",\"dump\":", u32::from(dump));
+    put_long(&mut line, ",\"uneven\":", ticks);
+    put(&mut line, "}");
     line
 }
 

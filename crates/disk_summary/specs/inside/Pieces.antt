@@ -18,7 +18,7 @@ use Rattle.dump_reading.specs.declared.totals.DumpTotals.{DumpTotals}
 use Rattle.disk_map.specs.Looks.{name_of}
 use Rattle.disk_summary.specs.Values.{steps_word}
 use Rattle.disk_summary.specs.declared.note.Note.{Note}
-use Rattle.disk_summary.specs.declared.note.Note.TheVariants.{Other, Sector, Unread, Untold}
+use Rattle.disk_summary.specs.declared.note.Note.TheVariants.{Other, Sector, Uneven, Unread, Untold}
 use Rattle.disk_summary.specs.declared.summary.Summary.{Summary}
 
 abbrev pub track_piece : TrackId → List ℕ
@@ -73,6 +73,10 @@ written_piece (Other track told) =
     ++ (codes ",\"headers\":"
     ++ (decimal told.headers ++ (codes ",\"whole\":" ++ (decimal told.whole ++ codes "}")))))
 written_piece (Untold track) = track_piece track ++ codes ",\"untold\":true}"
+written_piece (Uneven track dump ticks) =
+    track_piece track
+    ++ (codes ",\"dump\":"
+    ++ (decimal dump ++ (codes ",\"uneven\":" ++ (decimal ticks ++ codes "}"))))
 
 unfoldable pub disk_piece : Summary → List ℕ
 disk_piece s =

@@ -13,3 +13,6 @@ returns-in-Other c = rw (c.in-Other.is) (c.other_piece.ensures ∙ written_is _)
 
 pub returns-in-Untold : goal.returns-in-Untold
 returns-in-Untold c = rw (c.in-Untold.is) (c.untold_piece.ensures ∙ written_is _)
+
+pub returns-in-Uneven : goal.returns-in-Uneven
+returns-in-Uneven c = rw (c.in-Uneven.is) (c.uneven_piece.ensures ∙ written_is _)
