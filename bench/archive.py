@@ -148,7 +148,7 @@ def made(task):
 
 def differences(dump, line, code, kept):
     """How a summary, an image and an exit code differ from the truth."""
-    notes = line["notes"]
+    notes = [note for note in line["notes"] if "uneven" not in note]
     others = len(dump.notes) if dump.damage == "beside" else 0
     for what, got, right in (("format", line["format"], dump.form.word), ("sectors", line["sectors"], dump.sectors()), ("status", line["status"], dump.status()),
                              ("others", (line["others"], line["whole"]), (others, others)), ("exit code", code, line["status"]), ("image", kept, dump.left),
@@ -174,6 +174,9 @@ def compared(task):
     picture = run("read", "--picture", dump.form.word, path).stdout
     pairs = [("image", images[0], read.stdout), ("report", kept / "report.txt", read.stderr), ("picture", kept / "disk.svg", picture)]
     wrong = [f"{dump.name}: {what} is not that of read" for what, file, wanted in pairs if file.read_bytes() != wanted]
+    turned = [it for it in run("info", path).stdout.decode().splitlines() if it.startswith("uneven ")]
+    if turned != ["uneven {cylinder:02}.{head} {uneven}".format(**note) for note in json.loads(line)["notes"] if "uneven" in note]:
+        wrong.append(f"{dump.name}: the notes of files that turned otherwise are not those of info")
     if best != f"best {dump.form.word}":
         wrong.append(f"{dump.name}: {best} and not {dump.form.word}")
     return wrong + list(differences(dump, json.loads(line), read.returncode, images[0].read_bytes()))

@@ -30,6 +30,12 @@ def disk(folder, step=1):
             for k, (cylinder, head) in enumerate(FORM.tracks)}
 
 
+def slower(folder, k):
+    """One of these files, of a drive that turns by one in a hundred slower."""
+    cylinder, head = FORM.tracks[k]
+    return {track_file(folder, cylinder, head): stream_of(FORM.ring_of(counted(FORM.image_bytes), k), 101 * FORM.nominal(cylinder) // 100)}
+
+
 def without(files, *tracks):
     """The same without the files of these tracks."""
     return {path: content for path, content in files.items() if path not in [track_file(path.split("/")[0], *track) for track in tracks]}
@@ -73,6 +79,11 @@ def rows():
     chance = random.Random("kept")
     others = {track_file("a", *track): others_track(chance, set(), FORM, k) for k, track in enumerate(FORM.tracks)}
     yield row("all of a dump with headers of others", [*NAMED, "kept", "a"], others, 1, '"verdict":"missing"')
+    slow = whole | slower("a", 3)
+    yield row("all of a dump with a file of a slower drive", [*NAMED, "kept", "a"], slow, 0, '"notes":[{"cylinder":1,"head":1,"dump":0,"uneven":')
+    yield row("all of two dumps with such files", [*NAMED, "kept", "a", "b"], slow | disk("b") | slower("b", 0) | {track_file("b", 98, 0): None}, 8,
+              '"notes":[{"cylinder":98,"head":0,"dump":1,"unread":"failed"},{"cylinder":1,"head":1,"dump":0,"uneven":4853515},'
+              '{"cylinder":0,"head":0,"dump":1,"uneven":4853515}],"status":8')
     packed = in_scp_file(whole)
     yield row("all of an SCP file", ["archive.d/kept", "archive.d/disk.scp"], {"archive.d/disk.scp": packed}, 0, NUMBERS % (64, 0))
     damaged = packed.replace(b"TRK\x03", b"TRX\x03", 1)

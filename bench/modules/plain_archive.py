@@ -1,13 +1,14 @@
 """All that is kept of a disk of its dumps, off the definitions: its image, its report, its picture and its summary, as files of a new folder.
 
 A summary is made of the lines of the report: it is one line of JSON with the numbers, and a note of each file that was passed over, of each
-sector that is not good and of each name of other headers that has data.
+sector that is not good and of each name of other headers that has data; behind these stands one of each file that turned otherwise than the others.
 """
 import json
 import re
 
 import plain_dumps
 import plain_identity
+import plain_info
 from plain import FORMATS
 from plain_dumps import Dumps, Shelf, no_files_line, parts_of
 from plain_files import VERSION, Tree
@@ -58,14 +59,22 @@ def note_of(line):
     return None if rest[0] == "traces" or rest[1] == "good" else note | {"sector": int(rest[0]), "verdict": rest[1]}
 
 
-def summary(form, steps, count, answer, code):
+def turn_notes(shelf, names):
+    """The notes of files of dumps that turned otherwise than the others, as `info` tells them, and whether a file failed."""
+    dumps = [plain_info.measured(shelf, name) for name in names]
+    notes = [{"cylinder": cylinder, "head": head, "dump": dump, "uneven": mean}
+             for dump, files in enumerate(dumps) for (cylinder, head), mean in plain_info.uneven_of(files)]
+    return notes, any(told == "failed" for files in dumps for _, told, _ in files)
+
+
+def summary(form, steps, count, answer, turned, code):
     """The line of a summary."""
     numbers = answer.number
     value = {
         "version": VERSION, "format": form.word, "steps": ("single", "double")[steps - 1], "dumps": count,
         "sectors": {"all": sum(numbers[verdict] for verdict in VERDICTS)} | {verdict: numbers[verdict] for verdict in VERDICTS},
         "unread": answer.unread, "failed": answer.failed, "others": answer.others, "whole": answer.whole,
-        "notes": [note for note in map(note_of, answer.lines) if note], "status": code,
+        "notes": [note for note in map(note_of, answer.lines) if note] + turned, "status": code,
     }
     return (json.dumps(value, separators=(",", ":")) + "\n").encode()
 
@@ -98,10 +107,10 @@ def archive(asked, outside, numbers, heads):
         return 2, b"", no_files_line(dumps, empty), tree.paths()
     answer = plain_dumps.DumpAnswer(form)
     plain_dumps.read_tracks(dumps, form, answer)
-    code = 8 if failed else 0
-    code = max(code, answer.end())
+    turned, failed_turning = turn_notes(shelf, names)
+    code = 8 if failed or failed_turning else answer.end()
     image, report = answer.said()
-    line = summary(form, steps, len(names), answer, code)
+    line = summary(form, steps, len(names), answer, turned, code)
     files = [("report", b"report.txt", report), ("image", f"disk.{ENDINGS.get(form.word, 'img')}".encode(), image),
              ("picture", b"disk.svg", plain_dumps.draw(dumps, form)[1]), ("summary", b"summary.json", line)]
     if not tree.make_folder(folder):

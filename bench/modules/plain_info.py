@@ -49,14 +49,29 @@ def tracks_of(shelf, name):
     return all_tracks([(cylinder, head) for cylinder in range(MOST_CYLINDERS) for head in (0, 1) if shelf.has_track(name, cylinder, head)])
 
 
-def turn_lines(means):
-    """The files that turned otherwise than the middle one, how many they are, and how long turns are."""
+def measured(shelf, name):
+    """The tracks of a dump, with what is told of the file of each and the mean of its turns, if it has one."""
+    return [(track, *read_file(shelf, name, *track)) for track in tracks_of(shelf, name)]
+
+
+def middle_of(means):
+    return sorted(means)[len(means) // 2]
+
+
+def uneven_of(files):
+    """The tracks whose files turned otherwise than the middle one, with their means."""
+    means = [(track, mean) for track, _, mean in files if mean is not None]
+    middle = middle_of([mean for _, mean in means]) if means else None
+    return [(track, mean) for track, mean in means if 1000 * abs(mean - middle) > UNEVEN * middle]
+
+
+def turn_lines(files):
+    """The files that turned otherwise than the middle one, and how long turns are."""
+    means = [mean for _, _, mean in files if mean is not None]
     if not means:
-        return [], 0
-    ticks = sorted(mean for _, mean in means)
-    middle = ticks[len(ticks) // 2]
-    uneven = [f"uneven {track} {mean}\n" for track, mean in means if 1000 * abs(mean - middle) > UNEVEN * middle]
-    return uneven + [f"turn least {ticks[0]} median {middle} greatest {ticks[-1]} rpm {speed(1, middle)}\n"], len(uneven)
+        return []
+    uneven = [f"uneven {cylinder:02}.{head} {mean}\n" for (cylinder, head), mean in uneven_of(files)]
+    return uneven + [f"turn least {min(means)} median {middle_of(means)} greatest {max(means)} rpm {speed(1, middle_of(means))}\n"]
 
 
 def info(shelf, name):
@@ -68,16 +83,11 @@ def info(shelf, name):
 def turns_of(dumps):
     """The outcome of `info` of one dump."""
     shelf, (name,) = dumps.shelf, dumps.names
-    tracks = tracks_of(shelf, name)
-    if not tracks:
+    files = measured(shelf, name)
+    if not files:
         return 2, b"", no_files_line(dumps, 0)
-    lines, means, begins = [], [], []
-    for cylinder, head in tracks:
-        told, mean = read_file(shelf, name, cylinder, head)
-        begins.append(told.split()[0])
-        lines.append(f"{cylinder:02}.{head} {told}\n")
-        means += [(f"{cylinder:02}.{head}", mean)] * (mean is not None)
-    told, uneven = turn_lines(means)
-    missing, refused, failed = map(begins.count, ("missing", "refused", "failed"))
-    total = f"total files {len(tracks) - missing} refused {refused} missing {missing} uneven {uneven}" + f" failed {failed}" * (failed > 0) + "\n"
-    return 8 if failed else 0 if refused == missing == uneven == 0 else 1, "".join(lines + told + [total]).encode(), b""
+    lines = [f"{cylinder:02}.{head} {told}\n" for (cylinder, head), told, _ in files]
+    missing, refused, failed = map([told.split()[0] for _, told, _ in files].count, ("missing", "refused", "failed"))
+    uneven = len(uneven_of(files))
+    total = f"total files {len(files) - missing} refused {refused} missing {missing} uneven {uneven}" + f" failed {failed}" * (failed > 0) + "\n"
+    return 8 if failed else 0 if refused == missing == uneven == 0 else 1, "".join(lines + turn_lines(files) + [total]).encode(), b""
