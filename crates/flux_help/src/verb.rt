@@ -143,7 +143,7 @@ const ARCHIVE: Texts<&str> = Texts {
     about: "
 Makes the folder, which must not be there, and in it, one after another, report.txt, the report that read writes of the dumps,
 disk.EXT, its image, disk.svg, the picture that read --picture draws, and summary.json, one line that other programs read. That
-line goes to standard output too. The disk and its steps are the best that identify names of the first dump; with --format it is
+line goes to standard output too. The disk and its steps are the first best that identify names of a dump; with --format it is
 not asked. The exit code is that of read; where no disk is found nothing is made. Where a file is not made, those before are whole.
 
 Example:
