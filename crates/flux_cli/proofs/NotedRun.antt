@@ -17,7 +17,7 @@ use Rattle.track_shelf.specs.Told.{with_failed}
 use Rattle.dump_reading.specs.Outcomes.{DumpDisk}
 use Rattle.sector_images.specs.declared.format.Format.{Format}
 use Rattle.flux_words.specs.declared.options.Shown.{Shown}
-use Rattle.scp_notes.specs.Dumps.{DumpNoted, NotesDumps, failed_paths, has_failed, texts_of}
+use Rattle.scp_notes.specs.Dumps.{AllNoted, DumpNoted, NotesDumps, failed_paths, has_failed, texts_of}
 use Rattle.flux_engine.specs.declared.fault.Stopped.{Stopped}
 use Rattle.flux_engine.specs.declared.fault.Stopped.TheVariants.{Refused as RefusedInput, ReadFault as Unread, ImageFault as Unwritten, NotesFault as Untold}
 use Rattle.dump_reading.specs.declared.fault.NoFiles.{NoFiles}
@@ -25,7 +25,7 @@ use Rattle.track_shelf.specs.Files.{File}
 use Rattle.flux_cli.proofs.EndingLaws.{IsDone, ends-refused, ends-with}
 use Rattle.flux_cli.specs.Endings.{EndsDumps}
 use Rattle.flux_cli.specs.Blamed.{CountsOnShelf, FailsOften, shelf_blame}
-use Rattle.flux_cli.specs.NotedWork.{AllNoted, CutBehindNotes, noted_outcome, noted_status, noted_work}
+use Rattle.flux_cli.specs.NotedWork.{CutBehindNotes, noted_outcome, noted_status, noted_work}
 use Rattle.flux_cli.specs.ReadRuns.{read_work}
 use Rattle.flux_cli.specs.Runs.{Does, Finished, Says, growth}
 use Rattle.flux_cli.specs.ShelfWork.{ShelfStays, dumps_work, ends_over_shelf}

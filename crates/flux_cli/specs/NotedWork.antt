@@ -1,13 +1,13 @@
 -- What a command over dumps does that tells first what is noted of those that are SCP files: behind
 -- these lines it is what its own row says.
-use Rattle.std.specs.Prelude.{◌≡◌, ◌⊎◌, ◌++◌, ℕ, Bool, true, List, length, Option}
+use Rattle.std.specs.Prelude.{◌≡◌, ◌⊎◌, ◌++◌, ℕ, Bool, true, List, Option}
 use Rattle.std.specs.Io.KnownBytes.{Appends}
 use Rattle.std.specs.List.{list_any}
 use Rattle.dump_reading.specs.Files.{ShelfNow}
 use Rattle.flux_base.specs.declared.status.Status.{Status}
 use Rattle.flux_base.specs.declared.status.Status.TheVariants.{AllGood, NotAllGood, NotesFault}
 use Rattle.flux_base.specs.declared.status.Status.TheVariants.{Refused, ShelfFault}
-use Rattle.scp_notes.specs.Dumps.{AreNoted, DumpNoted, has_failed, texts_of}
+use Rattle.scp_notes.specs.Dumps.{AllNoted, AreNoted, DumpNoted, has_failed, texts_of}
 use Rattle.flux_cli.specs.ShelfWork.{dumps_work}
 use Rattle.flux_cli.specs.Work.{GotNothing, GotPart, Growth, Outcome, Work}
 
@@ -26,12 +26,6 @@ noted_outcome noted own = record {
   image = own.image;
   notes = texts_of noted ++ own.notes;
 }
-
--- all dumps were looked at, between two moments of the shelf
-pub record AllNoted (dumps : List (List ℕ)) (start now : ShelfNow)
-    (noted : List DumpNoted) : Type 0 where
-  pub are : AreNoted dumps start now noted
-  pub all : length noted ≡ length dumps
 
 -- behind the notes of all dumps, which left the shelf so, the outcome is one of these
 pub record OfNoted (dumps : List (List ℕ)) (Gives : (start now : ShelfNow) → Outcome → Type 0)

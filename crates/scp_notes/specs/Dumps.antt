@@ -77,6 +77,12 @@ pub record AreNoted (dumps : List (List ℕ)) (start now : ShelfNow)
   pub told : now.told ≡ with_failed (failed_paths noted) start.told
   pub counts : CountsMany (count_by has_failed noted) start.counts now.counts
 
+-- all dumps were
+pub record AllNoted (dumps : List (List ℕ)) (start now : ShelfNow)
+    (noted : List DumpNoted) : Type 0 where
+  pub are : AreNoted dumps start now noted
+  pub all : length noted ≡ length dumps
+
 -- All dumps were; or the first of them, up to one inside whose lines the notes failed. The answer
 -- tells whether a file failed.
 pub record NotesDumps {N : Type 0} (dumps : List (List ℕ)) (start now : ShelfNow)
