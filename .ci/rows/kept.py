@@ -47,8 +47,8 @@ def in_scp_file(files):
     return scp.scp(streams, 2, 0, 168, False, False)
 
 
-def row(name, words, files, code, said=None, most=None):
-    """A row whose bytes and files are those of the plain reading; it has to say this, where something is given."""
+def row(name, words, files, code, said=None, most=None, report=b""):
+    """A row whose bytes and files are those of the plain reading; it has to say this, where something is given, and its report begins so."""
     asked = plain_archive.asked([b"archive", *map(str.encode, words)])
     outside = Outside(b"", {path.encode(): content for path, content in files.items()}, most)
     ends, output, errors, left = plain_archive.archive(asked, outside, True, True)
@@ -58,6 +58,8 @@ def row(name, words, files, code, said=None, most=None):
             return "no summary"
         if ends != code or said is not None and said.encode() not in output + errors:
             return f"the plain reading ends with {ends}: {output + errors!r}"
+        if not left.get(asked[1] + b"/report.txt", b"").startswith(report):
+            return "no such report"
     return Row(name, ["archive", *words], b"", code, output, errors, wrong, files=files, left={path.decode(): content for path, content in left.items()}, most=most)
 
 
@@ -86,6 +88,8 @@ def rows():
               '{"cylinder":0,"head":0,"dump":1,"uneven":4853515}],"status":8')
     packed = in_scp_file(whole)
     yield row("all of an SCP file", ["archive.d/kept", "archive.d/disk.scp"], {"archive.d/disk.scp": packed}, 0, NUMBERS % (64, 0))
+    summed = packed[:12] + (sum(packed[16:]) + 1).to_bytes(4, "little") + packed[16:]
+    yield row("all of an SCP file with another sum", [*NAMED, "kept", "disk.scp"], {"disk.scp": summed}, 0, report=b"dump 0 scp sum ")
     damaged = packed.replace(b"TRK\x03", b"TRX\x03", 1)
     yield row("all of an SCP file with a damaged track", [*NAMED, "kept", "disk.SCP"], {"disk.SCP": damaged}, 1,
               '"notes":[{"cylinder":1,"head":1,"dump":0,"unread":"refused scp","fault":"BadSignature"},')
@@ -93,7 +97,12 @@ def rows():
     yield row("all of what is no SCP file", ["kept", "disk.scp"], {"disk.scp": packed[:9]}, 2, "refused dump 0 scp ")
     yield row("all in a folder that is there", [*NAMED, "kept", "a"], whole | {"kept": None}, 8, "refused folder exists\n")
     yield row("all in a folder of none", [*NAMED, "none/kept", "a"], whole, 8, "failed folder\n")
-    yield row("all of a dump without a disk", ["kept", "a"], {"a/track00.0.raw": SHORT}, 2, "refused dump 0 no format\n")
+    yield row("all of a dump without a disk", ["kept", "a"], {"a/track00.0.raw": SHORT}, 2, "refused no format\n")
+    none = {track_file("none", 0, 0): SHORT}
+    second = row("all of a dump without a disk and one with one", [*NAMED, "kept", "none", "a"], none | whole, 0, '"dumps":2,' + NUMBERS % (64, 0))
+    yield dataclasses.replace(second, words=["archive", "kept", "none", "a"])
+    yield row("all of two dumps without a disk", ["kept", "none", "none/track00.0.raw"], none, 2, "refused no format\n")
+    yield row("all of a dump without a disk and of none", ["kept", "none", "b", "a"], none | whole, 2, "refused dump 1 b is not there\n")
     yield row("all of no dump", [*NAMED, "kept", "a", "b"], whole, 2, "refused dump 1 b is not there\n")
     for most, told in ((100, "report"), (8000, "image")):
         yield row(f"all without room for the {told}", [*NAMED, "kept", "a"], whole, 8, f"failed {told}\n", most)

@@ -20,13 +20,15 @@ def case_archive(chance, kinds, built):
     named = not one_in(chance, 4)
     form = any_format(chance) if named else FORMATS[chance.choice(list(FORMATS))]
     steps = 2 if reaches_all(form) and one_in(chance, 3) else 1
-    count = chance.choice([1, 1, 2, 3]) if named else 1
+    count = chance.choice([1, 1, 2, 3] if named else [1, 1, 2])
     kinds |= {f"format {form.word}", f"{count} dumps of which all is kept", "a disk that is named" if named else "a disk that is found"}
     if named:
         names, files = dumps_of(chance, kinds, form, steps, count, *[others_track] * one_in(chance, 2))
     else:
-        names = [dump_name(chance, kinds, 0)]
-        files = named_tracks(chance, kinds, form, names[0], steps, 2)
+        names, files = [dump_name(chance, kinds, number) for number in range(count)], {}
+        for name in names:
+            # the last one has sectors, one before it none
+            files |= named_tracks(chance, kinds, form, name, steps, 2 if name == names[-1] else 0)
     folder = folder_name(chance, kinds)
     words = [b"archive", *([b"--format", form.word.encode(), *[b"--double-step"] * (steps - 1)] if named else []), folder, *names]
     if one_in(chance, 20):

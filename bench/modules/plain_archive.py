@@ -79,15 +79,19 @@ def summary(form, steps, count, answer, turned, code):
     return (json.dumps(value, separators=(",", ":")) + "\n").encode()
 
 
-def best_of(shelf, name, numbers, heads):
-    """The best of a dump, its steps, and whether a file failed; or in their place the line that tells why there is none."""
-    code, out, notes = plain_identity.identify(shelf, name, numbers, heads)
-    if code == 2:
-        return notes
-    words = out.decode().splitlines()[-1].split()[1:]
-    if words == ["none"]:
-        return b"refused dump 0 no format\n"
-    return FORMATS.get(words[-1]), len(words), code == 8
+def best_of(dumps, numbers, heads):
+    """The best of the first dump that has one, its steps, and whether a file failed in those that were asked; or in their place the line that
+    tells why there is none."""
+    failed = False
+    for number, name in enumerate(dumps.names):
+        code, out, _ = plain_identity.identify(dumps.shelf, name, numbers, heads)
+        if code == 2:
+            return no_files_line(dumps, number)
+        failed |= code == 8
+        words = out.decode().splitlines()[-1].split()[1:]
+        if words != ["none"]:
+            return FORMATS.get(words[-1]), len(words), failed
+    return b"refused no format\n"
 
 
 def archive(asked, outside, numbers, heads):
@@ -97,7 +101,7 @@ def archive(asked, outside, numbers, heads):
     # a file is not there by a name with a slash behind it
     if tree.is_folder(parts_of(folder)) or tree.has(folder) and not folder.endswith(b"/"):
         return 8, b"", b"refused folder exists\n", tree.paths()
-    best = (*disk, False) if disk else best_of(shelf, names[0], numbers, heads)
+    best = (*disk, False) if disk else best_of(Dumps(shelf, names), numbers, heads)
     if isinstance(best, bytes):
         return 2, b"", best, tree.paths()
     form, steps, failed = best
@@ -107,11 +111,12 @@ def archive(asked, outside, numbers, heads):
         return 2, b"", no_files_line(dumps, empty), tree.paths()
     answer = plain_dumps.DumpAnswer(form)
     plain_dumps.read_tracks(dumps, form, answer)
+    noted, unnoted = plain_dumps.notes_of(dumps)
     turned, failed_turning = turn_notes(shelf, names)
-    code = 8 if failed or failed_turning else answer.end()
+    code = max(8 if failed or unnoted or failed_turning else 0, answer.end())
     image, report = answer.said()
     line = summary(form, steps, len(names), answer, turned, code)
-    files = [("report", b"report.txt", report), ("image", f"disk.{ENDINGS.get(form.word, 'img')}".encode(), image),
+    files = [("report", b"report.txt", noted + report), ("image", f"disk.{ENDINGS.get(form.word, 'img')}".encode(), image),
              ("picture", b"disk.svg", plain_dumps.draw(dumps, form)[1]), ("summary", b"summary.json", line)]
     if not tree.make_folder(folder):
         return 8, b"", b"failed folder\n", tree.paths()

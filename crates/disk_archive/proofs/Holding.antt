@@ -15,8 +15,7 @@ use Rattle.flux_base.specs.Memory.{SinkState}
 use Rattle.flux_base.specs.declared.status.Status.{Status}
 use Rattle.flux_base.specs.declared.status.Status.TheVariants.{AllGood, NotAllGood}
 use Rattle.track_shelf.specs.Files.{File}
-use Rattle.track_shelf.specs.Told.{ShelfTold}
-use Rattle.disk_archive.specs.Answers.{HasHeld, IsKept, IsUnheld, ShelfDid, StatusTells, disk_as, have_lost, status_of, summary_of}
+use Rattle.disk_archive.specs.Answers.{HasHeld, IsKept, IsUnheld, ShelfDid, StatusTells, disk_as, status_of, summary_of}
 use Rattle.disk_archive.specs.Finding.{Asked, FailedIf, FailedSome, HasFound, HasNotFound, IsDisk}
 use Rattle.disk_archive.specs.Kept.{Kept}
 use Rattle.disk_archive.specs.Reading.{HasDrawn, HasRead, IsUnread}
@@ -26,29 +25,24 @@ use Rattle.disk_archive.specs.declared.held.FoundDisk.{FoundDisk}
 use Rattle.disk_archive.specs.declared.held.HeldDisk.{HeldDisk}
 use Rattle.disk_archive.specs.declared.reading.Drawn.{Drawn}
 use Rattle.disk_archive.specs.declared.reading.Report.{Report}
-use Rattle.disk_archive.proofs.Readings.{drawn-failed, read-failed}
-use Rattle.disk_archive.proofs.Shelves.{if-some, if-then, same-some, some-then}
-
--- files that fail are on the shelf still
-same_files : (start mid : ShelfNow) → FailedSome start mid → mid.told.files ≡ start.told.files
-same_files start mid (often, shelf) = ap (λ (t : ShelfTold). t.files) shelf.told
+use Rattle.disk_archive.proofs.Shelves.{if-some, if-then, same-files, some-then}
 
 module _ (asked : Asked) (start : ShelfNow) where
   pub not-found : (now : ShelfNow) (fault : ArchiveFault) → HasNotFound asked start now fault → IsUnheld asked start now fault
-  not-found now Memory (none, same) = same-some start now same
-  not-found now (NoFiles empty) (none, (first, lacks, same)) = (inl (none, first, lacks), same-some start now same)
-  not-found now NoDisk (none, (best, some)) = ((none, best), some)
-  not-found now Exists (none, never) = absurd never
-  not-found now FolderFault (none, never) = absurd never
-  not-found now (FileFault file) (none, never) = absurd never
-  not-found now OutputFault (none, never) = absurd never
+  not-found now Memory (none, lacks, some) = some
+  not-found now (NoFiles empty) (none, lacks, some) = (inl (none, lacks), some)
+  not-found now NoDisk (none, lacks, some) = ((none, lacks), some)
+  not-found now Exists (none, never, some) = absurd never
+  not-found now FolderFault (none, never, some) = absurd never
+  not-found now (FileFault file) (none, never, some) = absurd never
+  not-found now OutputFault (none, never, some) = absurd never
 
   pub not-read : (begun mid now : ShelfNow) (candidate : Candidate) (fault : ArchiveFault) → IsDisk asked start begun candidate → FailedSome start mid
       → IsUnread (disk_as asked candidate) mid now fault → IsUnheld asked start now fault
   not-read begun mid now candidate Memory disk some more = some-then some more
-  not-read begun mid now candidate (NoFiles empty) disk some (lacks, same) = (
-    inr (begun, candidate, disk, subst (λ (files : Option (List File)). IsToldEmpty (disk_as asked candidate) files (Some empty.dump)) (same_files start mid some) lacks),
-    some-then some (same-some mid now same),
+  not-read begun mid now candidate (NoFiles empty) disk some (lacks, more) = (
+    inr (begun, candidate, disk, subst (λ (files : Option (List File)). IsToldEmpty (disk_as asked candidate) files (Some empty.dump)) (same-files start mid some) lacks),
+    some-then some more,
   )
   not-read begun mid now candidate NoDisk disk some never = absurd never
   not-read begun mid now candidate Exists disk some never = absurd never
@@ -71,55 +65,54 @@ module _ (asked : Asked) (start : ShelfNow) where
 
   pub after-read : (begun between : ShelfNow) (candidate : Candidate) (report : Report) → FailedSome start begun → HasRead (disk_as asked candidate) begun between report
       → FailedSome start between
-  after-read begun between candidate report some reads = some-then some (if-some (read-failed (disk_as asked candidate) begun between _ _ _ _ report.totals reads.1))
+  after-read begun between candidate report some reads = some-then some (if-some reads.shelf)
 
   pub after-drawn : (between now : ShelfNow) (candidate : Candidate) (drawn : Drawn) → FailedSome start between → HasDrawn (disk_as asked candidate) between now drawn
       → FailedSome start now
-  after-drawn between now candidate drawn some draws = some-then some (if-some (drawn-failed (disk_as asked candidate) between now _ _ _ _ drawn.totals draws))
+  after-drawn between now candidate drawn some draws = some-then some (if-some draws.shelf)
 
   -- all was read
   module _ (begun between now : ShelfNow) (found : FoundDisk) (report : Report) (drawn : Drawn) (has : HasFound asked start begun found)
       (reads : HasRead (disk_as asked found.candidate) begun between report) (draws : HasDrawn (disk_as asked found.candidate) between now drawn) where
-    abbrev lost : Bool
-    lost = have_lost report.totals drawn.totals
+    abbrev failed : Bool
+    failed = (found.failed || report.failed) || drawn.failed
 
-    failed_if : FailedIf (found.failed || lost) start now
-    failed_if =
-        if-then found.failed lost has.shelf
-        (if-then (nat_lt 0 report.totals.lost) (nat_lt 0 drawn.totals.lost)
-        (read-failed (disk_as asked found.candidate) begun between _ _ _ _ report.totals reads.1)
-        (drawn-failed (disk_as asked found.candidate) between now _ _ _ _ drawn.totals draws))
+    failed_if : FailedIf failed start now
+    failed_if = if-then (found.failed || report.failed) drawn.failed (if-then found.failed report.failed has.shelf reads.shelf) draws.shelf
 
-    noted_text : drawn.notes.written ≡ notes_text draws.noted
-    noted_text = draws.both.wrote.grew ∙ draws.text
+    noted_text : drawn.notes.written ≡ notes_text draws.drew.noted
+    noted_text = draws.drew.both.wrote.grew ∙ draws.drew.text
 
     abbrev held_by : Summary → SinkState → HeldDisk
     held_by summary line = record { summary = summary; image = report.image; report = report.report; picture = drawn.picture; line = line }
 
-    holds_of : (line : SinkState) → ((ns : List Note) → drawn.notes.written ≡ notes_text ns → line.written ≡ summary_text (summary_of asked found report.totals drawn.totals) ns)
-        → HasHeld asked start now (held_by (summary_of asked found report.totals drawn.totals) line)
+    abbrev summary : Summary
+    summary = summary_of asked found.candidate failed report.totals
+
+    holds_of : (line : SinkState) → ((ns : List Note) → drawn.notes.written ≡ notes_text ns → line.written ≡ summary_text summary ns)
+        → HasHeld asked start now (held_by summary line)
     holds_of line line_is = record {
       begun = begun;
       disk = has.disk;
-      some = reads.0;
+      some = reads.some;
       between = between;
-      read = reads.1;
+      read = reads.wrote;
       drawn = drawn.totals;
-      notes = draws.noted;
+      notes = draws.drew.noted;
       draws = subst
           (λ (bytes : List ℕ). DrewNoted (disk_as asked found.candidate) between now (Some []) (Some drawn.picture.written) (Some []) (Some bytes) drawn.totals)
-          noted_text draws;
-      line_is = line_is draws.noted noted_text;
+          noted_text draws.drew;
+      line_is = line_is draws.drew.noted noted_text;
       dumps = refl;
-      failed = found.failed || lost;
+      failed = failed;
       shelf = failed_if;
       status = refl;
     }
 
-    pub holds : (summary : Summary) (line : SinkState) → summary ≡ summary_of asked found report.totals drawn.totals
-        → ((ns : List Note) → drawn.notes.written ≡ notes_text ns → line.written ≡ summary_text summary ns)
-        → HasHeld asked start now (record { summary = summary; image = report.image; report = report.report; picture = drawn.picture; line = line })
-    holds summary line same line_is =
+    pub holds : (told : Summary) (line : SinkState) → told ≡ summary
+        → ((ns : List Note) → drawn.notes.written ≡ notes_text ns → line.written ≡ summary_text told ns)
+        → HasHeld asked start now (record { summary = told; image = report.image; report = report.report; picture = drawn.picture; line = line })
+    holds told line same line_is =
         subst (λ (s : Summary). HasHeld asked start now (held_by s line)) (sym same)
         (holds_of line (λ ns are. line_is ns are ∙ ap (λ (s : Summary). summary_text s ns) same))
 

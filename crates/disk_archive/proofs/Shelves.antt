@@ -1,15 +1,18 @@
 -- How often files failed, over several readings.
-use Rattle.std.specs.Prelude.{◌||◌, nat_lt}
-use Rattle.std.proofs.Common.{◌≡◌, ◌+◌, ℕ, Bool, true, false, List, [], Option, Some, None, inl, inr, arith, refl, sym, ap, ◌∙◌, subst}
+use Rattle.std.specs.Prelude.{◌||◌, cond, count_by, nat_lt}
+use Rattle.std.specs.List.{list_any}
+use Rattle.std.proofs.Common.{◌≡◌, ◌+◌, ℕ, Bool, true, false, List, [], ◌∷◌, Option, Some, None, inl, inr, arith, refl, sym, ap, ◌∙◌, subst}
 use Rattle.std.proofs.lemmas.Bool.{cases_lt}
 use Rattle.std.proofs.lemmas.Bool.Decides.{nat_tests}
+use Rattle.std.proofs.lemmas.List.Sums.{sum_by-cons}
 use Rattle.dump_reading.specs.Files.{CountsMany, ShelfNow, failed_more}
 use Rattle.dump_reading.specs.Outcomes.{DumpDisk, FilesFailed}
 use Rattle.dump_reading.specs.lemmas.Coming.{counts-both, failed-both, none-failed}
 use Rattle.flux_base.specs.Counts.{FaultCounts}
 use Rattle.flux_engine.specs.LoopProgress.{lost_count}
 use Rattle.flux_engine.specs.Plans.{Seen}
-use Rattle.track_shelf.specs.Told.{with_failed}
+use Rattle.scp_notes.specs.Dumps.{AreNoted, DumpNoted, failed_paths, has_failed}
+use Rattle.track_shelf.specs.Told.{ShelfTold, with_failed}
 use Rattle.disk_archive.specs.Finding.{FailedIf, FailedOften, FailedSome}
 
 none_more : (failed : Option ℕ) → failed ≡ failed_more 0 failed
@@ -74,3 +77,28 @@ files-some disk start now streams beside files = (lost_count streams + lost_coun
 pub files-if : (disk : DumpDisk) (start now : ShelfNow) (streams beside : List Seen) (lost : ℕ) → lost ≡ lost_count streams + lost_count beside → FilesFailed disk start now streams beside
     → FailedIf (nat_lt 0 lost) start now
 files-if disk start now streams beside lost same files = record { often = _; shelf = of-files disk start now streams beside files; is = ap (nat_lt 0) same }
+
+-- an SCP file that failed as it was noted
+one-often : (b : Bool) → b ≡ nat_lt 0 (cond b 1 0)
+one-often true = refl
+one-often false = refl
+
+any-often : {X : Type 0} (test : X → Bool) (xs : List X) → list_any test xs ≡ nat_lt 0 (count_by test xs)
+any-often test [] = refl
+any-often test (x ∷ xs) =
+    ap (λ (t : Bool). t || list_any test xs) (one-often (test x))
+    ∙ ap (λ (t : Bool). nat_lt 0 (cond (test x) 1 0) || t) (any-often test xs)
+    ∙ or-lt (cond (test x) 1 0) (count_by test xs)
+    ∙ ap (nat_lt 0) (sym (sum_by-cons (λ y. cond (test y) 1 0) x xs))
+
+pub noted-if : (dumps : List (List ℕ)) (start now : ShelfNow) (noted : List DumpNoted) (failed : Bool) → AreNoted dumps start now noted → failed ≡ list_any has_failed noted
+    → FailedIf failed start now
+noted-if dumps start now noted failed are same = record {
+  often = count_by has_failed noted;
+  shelf = record { paths = failed_paths noted; told = are.told; counts = are.counts };
+  is = same ∙ any-often has_failed noted;
+}
+
+-- files that fail are on the shelf still
+pub same-files : (start mid : ShelfNow) → FailedSome start mid → mid.told.files ≡ start.told.files
+same-files start mid (often, shelf) = ap (λ (t : ShelfTold). t.files) shelf.told

@@ -1,15 +1,14 @@
 -- What keeping a disk may answer, and what that says of its dumps, of the files that are made, and of
 -- the line that is written.
-use Rattle.std.specs.Prelude.{◌≡◌, ◌<◌, ◌⊎◌, ◌||◌, ℕ, Bool, true, false, if◌then◌else◌, nat_lt, List, []}
+use Rattle.std.specs.Prelude.{◌≡◌, ◌<◌, ◌⊎◌, ℕ, Bool, true, false, if◌then◌else◌, List, []}
 use Rattle.std.specs.Prelude.{length, Option, Some, None, Result, Ok, Err}
 use Rattle.disk_summary.specs.Dumps.{DrewNoted}
 use Rattle.disk_summary.specs.Texts.{notes_text, summary_text}
 use Rattle.disk_summary.specs.declared.note.Note.{Note}
 use Rattle.disk_summary.specs.declared.summary.Summary.{Summary}
-use Rattle.dump_identity.specs.Outcomes.{HasNoFiles}
 use Rattle.dump_identity.specs.declared.candidate.Candidate.{Candidate}
 use Rattle.dump_reading.specs.Files.{ShelfNow}
-use Rattle.dump_reading.specs.Outcomes.{DumpDisk, IsToldEmpty, WroteDumps}
+use Rattle.dump_reading.specs.Outcomes.{DumpDisk, IsToldEmpty}
 use Rattle.dump_reading.specs.Totals.{is_complete}
 use Rattle.dump_reading.specs.declared.looks.Looks.TheVariants.{Always}
 use Rattle.dump_reading.specs.declared.totals.DumpTotals.{DumpTotals}
@@ -18,15 +17,15 @@ use Rattle.flux_base.specs.Blames.{Blame, no_one, the_image, the_source}
 use Rattle.flux_base.specs.declared.status.Status.{Status}
 use Rattle.flux_base.specs.declared.status.Status.TheVariants.{AllGood, NotAllGood, ShelfFault}
 use Rattle.flux_engine.specs.declared.plan.Clocks.TheVariants.{Both}
-use Rattle.disk_archive.specs.Finding.{Asked, FailedIf, FailedOften, FailedSome, IsBest, IsDisk}
-use Rattle.disk_archive.specs.Finding.{first_dump}
+use Rattle.disk_archive.specs.Finding.{Asked, FailedIf, FailedOften, FailedSome, HaveNoBest}
+use Rattle.disk_archive.specs.Finding.{IsDisk, IsFirstLost}
 use Rattle.disk_archive.specs.Kept.{Kept, kept_of}
 use Rattle.disk_archive.specs.Making.{WritesKept}
+use Rattle.disk_archive.specs.Reading.{WroteBehindNotes}
 use Rattle.disk_archive.specs.declared.fault.ArchiveFault.{ArchiveFault}
 use Rattle.disk_archive.specs.declared.fault.ArchiveFault.TheVariants.{Exists, FileFault, FolderFault}
 use Rattle.disk_archive.specs.declared.fault.ArchiveFault.TheVariants.{Memory, NoDisk, NoFiles}
 use Rattle.disk_archive.specs.declared.fault.ArchiveFault.TheVariants.{OutputFault}
-use Rattle.disk_archive.specs.declared.held.FoundDisk.{FoundDisk}
 use Rattle.disk_archive.specs.declared.held.HeldDisk.{HeldDisk}
 
 -- whether a file failed, and else whether the image is all that can be read there
@@ -47,16 +46,16 @@ disk_as asked candidate = record {
 abbrev pub candidate_of : Summary → Candidate
 candidate_of summary = record { stepping = summary.stepping; format = summary.format }
 
--- What is kept: the disk was found, and read twice, for its image and report, and for its picture and
--- the notes of its summary. Its numbers are the report's, and its status tells all files that
--- failed.
+-- What is kept: the disk was found, and read twice, for its image and report, which begins with what
+-- is noted of SCP files, and for its picture and the notes of its summary. Its numbers are the
+-- report's, and its status tells all files that failed.
 pub record IsKept (asked : Asked) (start now : ShelfNow) (kept : Kept) : Type 0 where
   pub begun : ShelfNow
   pub disk : IsDisk asked start begun (candidate_of kept.summary)
   pub some : IsToldEmpty (disk_as asked (candidate_of kept.summary)) begun.told.files None
   pub between : ShelfNow
-  pub read : WroteDumps (disk_as asked (candidate_of kept.summary)) begun between (Some [])
-      (Some kept.image) (Some []) (Some kept.report) kept.summary.totals
+  pub read : WroteBehindNotes (disk_as asked (candidate_of kept.summary)) begun between kept.image
+      kept.report kept.summary.totals
   pub drawn : DumpTotals
   pub notes : List Note
   pub draws : DrewNoted (disk_as asked (candidate_of kept.summary)) between now (Some [])
@@ -67,33 +66,30 @@ pub record IsKept (asked : Asked) (start now : ShelfNow) (kept : Kept) : Type 0 
   pub shelf : FailedIf failed start now
   pub status : kept.summary.status ≡ status_of failed kept.summary.totals
 
--- none is asked for, and the first dump has no file
-abbrev pub LacksAll : Asked → (start : ShelfNow) → (dump : ℕ) → Type 0
-LacksAll asked start dump =
-    (asked.disk ≡ None) × (dump ≡ 0) × HasNoFiles (first_dump asked) start.told.files
+-- none is asked for, and this dump has no file, before one has a best
+abbrev pub LacksAll : Asked → (start now : ShelfNow) → (dump : ℕ) → Type 0
+LacksAll asked start now dump =
+    (asked.disk ≡ None) × IsFirstLost asked.dumps start now dump
 
--- or no best
+-- or none has a best
 abbrev pub LacksDisk : Asked → (start now : ShelfNow) → Type 0
-LacksDisk asked start now = (asked.disk ≡ None) × IsBest (first_dump asked) start now None
+LacksDisk asked start now =
+    (asked.disk ≡ None) × HaveNoBest asked.dumps (length asked.dumps) start now
 
--- a file failed in one of two readings, by what these came to
-abbrev pub have_lost : (read drawn : DumpTotals) → Bool
-have_lost read drawn = nat_lt 0 read.lost || nat_lt 0 drawn.lost
-
--- the summary's numbers by these
-abbrev pub summary_of : Asked → FoundDisk → (read drawn : DumpTotals) → Summary
-summary_of asked found read drawn = record {
-  format = found.candidate.format;
-  stepping = found.candidate.stepping;
+-- the summary's numbers by those of the report
+abbrev pub summary_of : Asked → Candidate → (failed : Bool) → DumpTotals → Summary
+summary_of asked candidate failed totals = record {
+  format = candidate.format;
+  stepping = candidate.stepping;
   dumps = length asked.dumps;
-  totals = read;
-  status = status_of (found.failed || have_lost read drawn) read;
+  totals = totals;
+  status = status_of failed totals;
 }
 
--- a dump has none of the disk's files, or the first one has none at all
-abbrev pub LacksFiles : Asked → (start : ShelfNow) → (dump : ℕ) → Type 0
-LacksFiles asked start dump =
-    LacksAll asked start dump
+-- a dump has none of the disk's files, or none at all
+abbrev pub LacksFiles : Asked → (start now : ShelfNow) → (dump : ℕ) → Type 0
+LacksFiles asked start now dump =
+    LacksAll asked start now dump
     ⊎ ((begun : ShelfNow) × (candidate : Candidate) × IsDisk asked start begun candidate
     × IsToldEmpty (disk_as asked candidate) start.told.files (Some dump))
 
@@ -104,7 +100,7 @@ HasHeld asked start now held = IsKept asked start now (kept_of held)
 abbrev pub IsUnheld : Asked → (start now : ShelfNow) → ArchiveFault → Type 0
 IsUnheld asked start now Memory = FailedSome start now
 IsUnheld asked start now (NoFiles empty) =
-    LacksFiles asked start empty.dump × FailedSome start now
+    LacksFiles asked start now empty.dump × FailedSome start now
 IsUnheld asked start now NoDisk = LacksDisk asked start now × FailedSome start now
 IsUnheld asked start now _ = ⊥
 
@@ -135,7 +131,7 @@ SaysOfArchive asked start now made made' line line' (Err Exists) =
 SaysOfArchive asked start now made made' line line' (Err Memory) =
     IsUntouched made made' line line'
 SaysOfArchive asked start now made made' line line' (Err (NoFiles empty)) =
-    LacksFiles asked start empty.dump × IsUntouched made made' line line'
+    LacksFiles asked start now empty.dump × IsUntouched made made' line line'
 SaysOfArchive asked start now made made' line line' (Err NoDisk) =
     LacksDisk asked start now × IsUntouched made made' line line'
 SaysOfArchive asked start now made made' line line' (Err fault) =

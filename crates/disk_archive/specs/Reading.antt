@@ -8,8 +8,9 @@ use Rattle.dump_reading.specs.declared.totals.DumpTotals.{DumpTotals}
 use Rattle.flux_engine.specs.Room.{RoomState, fresh}
 use Rattle.flux_engine.specs.declared.fault.Stopped.{Stopped}
 use Rattle.flux_engine.specs.declared.fault.Stopped.TheVariants.{Refused}
+use Rattle.scp_notes.specs.Dumps.{AllNoted, DumpNoted, texts_of}
 use Rattle.sector_images.specs.declared.format.Format.{Format}
-use Rattle.disk_archive.specs.Finding.{FailedSome}
+use Rattle.disk_archive.specs.Finding.{FailedIf, FailedSome}
 use Rattle.disk_archive.specs.declared.fault.ArchiveFault.{ArchiveFault}
 use Rattle.disk_archive.specs.declared.fault.ArchiveFault.TheVariants.{Memory, NoFiles}
 use Rattle.disk_archive.specs.declared.reading.Drawn.{Drawn}
@@ -24,25 +25,36 @@ abbrev pub fault_of : Stopped Empty → ArchiveFault
 fault_of (Refused empty) = NoFiles empty
 fault_of _ = Memory
 
--- image and report were read, as two sinks got them that had nothing
-abbrev pub HasReadTo : DumpDisk → (start now : ShelfNow) → (image report : List ℕ) → DumpTotals
-    → Type 0
-HasReadTo disk start now image report totals =
+-- image and report were read, as two sinks got them, of which that of the image had nothing
+abbrev pub HasReadTo : DumpDisk → (start now : ShelfNow) → (image report report' : List ℕ)
+    → DumpTotals → Type 0
+HasReadTo disk start now image report report' totals =
     IsToldEmpty disk start.told.files None
-    × WroteDumps disk start now (Some []) (Some image) (Some []) (Some report) totals
+    × WroteDumps disk start now (Some []) (Some image) (Some report) (Some report') totals
 
-abbrev pub HasRead : DumpDisk → (start now : ShelfNow) → Report → Type 0
-HasRead disk start now read =
-    HasReadTo disk start now read.image.written read.report.written read.totals
+-- Image and report as `read` has them: the report begins with what is noted of the dumps that are
+-- SCP files, and they were looked at before.
+pub record WroteBehindNotes (disk : DumpDisk) (start now : ShelfNow) (image report : List ℕ)
+    (totals : DumpTotals) : Type 0 where
+  pub looked : ShelfNow
+  pub noted : List DumpNoted
+  pub noted_are : AllNoted disk.dumps start looked noted
+  pub wrote : WroteDumps disk looked now (Some []) (Some image) (Some (texts_of noted))
+      (Some report) totals
 
-abbrev pub HasDrawn : DumpDisk → (start now : ShelfNow) → Drawn → Type 0
-HasDrawn disk start now drawn =
-    DrewNoted disk start now (Some []) (Some drawn.picture.written) (Some [])
-    (Some drawn.notes.written) drawn.totals
+pub record HasRead (disk : DumpDisk) (start now : ShelfNow) (read : Report) : Type 0 where
+  pub some : IsToldEmpty disk start.told.files None
+  pub wrote : WroteBehindNotes disk start now read.image.written read.report.written read.totals
+  pub shelf : FailedIf read.failed start now
+
+pub record HasDrawn (disk : DumpDisk) (start now : ShelfNow) (drawn : Drawn) : Type 0 where
+  pub drew : DrewNoted disk start now (Some []) (Some drawn.picture.written) (Some [])
+      (Some drawn.notes.written) drawn.totals
+  pub shelf : FailedIf drawn.failed start now
 
 -- they were not
 abbrev pub IsUnread : DumpDisk → (start now : ShelfNow) → ArchiveFault → Type 0
 IsUnread disk start now Memory = FailedSome start now
 IsUnread disk start now (NoFiles empty) =
-    IsToldEmpty disk start.told.files (Some empty.dump) × (now ≡ start)
+    IsToldEmpty disk start.told.files (Some empty.dump) × FailedSome start now
 IsUnread disk start now _ = ⊥

@@ -8,7 +8,7 @@ ghost use Rattle.dump_reading.specs.Files.{ShelfNow, shelf_at};
 ghost use Rattle.disk_summary.specs.Texts.{notes_text, summary_text};
 ghost use Rattle.disk_summary.specs.declared.note.Note.{Note};
 ghost use Rattle.disk_archive.specs.Answers.{HasHeld, IsUnheld, SaysOfArchive, ShelfDid, archive_blame};
-ghost use Rattle.disk_archive.specs.Answers.{have_lost, status_of, summary_of};
+ghost use Rattle.disk_archive.specs.Answers.{status_of, summary_of};
 ghost use Rattle.disk_archive.specs.Finding.{HasFound, asked_of};
 ghost use Rattle.disk_archive.specs.Kept.{kept_of};
 ghost use Rattle.disk_archive.specs.Making.{WritesKept};
@@ -20,6 +20,7 @@ use crate::held::{FoundDisk, HeldDisk};
 use crate::making::make_files;
 use crate::reading::{TEXT_ROOM, draw, read_report, room_of};
 use disk_summary::{Summary, write_summary};
+use dump_identity::Candidate;
 use dump_reading::{DumpTotals, Dumps};
 use file_maker::FileMaker;
 use flux_base::{Memory, MemorySink, Sink, Status, write_whole};
@@ -28,8 +29,9 @@ use track_shelf::Shelf;
 
 /// Keeps all of a disk of its dumps, in a folder that is made, and is not there before: the report of reading them,
 /// the image, a picture of the verdicts, and a summary, which is the last file that is made; where all of it is there,
-/// the folder is whole. The summary goes to `line` too. The disk is the one that is asked for, or the one that the first
-/// dump is best explained by. The texts are made in memory, by two readings. Gives how the run ends.
+/// the folder is whole. The summary goes to `line` too. The report is what `read` has for its notes: it begins with what
+/// is noted of the dumps that are SCP files. The disk is the one that is asked for, or the one by which the first dump
+/// that one explains is explained best. The texts are made in memory, by two readings. Gives how the run ends.
 ///
 /// Where the folder is there, nothing is read. Nothing is made before all was read. After `FileFault` the files before
 /// are whole, and none behind is there.
@@ -40,7 +42,6 @@ pub fn archive<H: Shelf, M: FileMaker, W: Sink>(
     maker: &mut M,
     line: &mut W,
 ) -> Result<Status, ArchiveFault>
-    requires some { 1 ≤ length asked.now.dumps.now }
     requires few { length asked.now.dumps.now ≤ 16 }
     ensures says { SaysOfArchive (asked_of asked.now) (shelf_at H.Source H.Shelf.own shelf.old)
         (shelf_at H.Source H.Shelf.own shelf.new) (M.made maker.old) (M.made maker.new) (W.written line.old)
@@ -74,7 +75,6 @@ fn hold_disk<H: Shelf>(
     asked: &ArchiveAsked,
     shelf: &mut H,
 ) -> Result<HeldDisk, ArchiveFault>
-    requires some { 1 ≤ length asked.now.dumps.now }
     requires few { length asked.now.dumps.now ≤ 16 }
     ensures ok { IfOk result
         (HasHeld (asked_of asked.now) (shelf_at H.Source H.Shelf.own shelf.old) (shelf_at H.Source H.Shelf.own shelf.new)) }
@@ -119,7 +119,8 @@ fn hold_found<H: Shelf>(
         Ok(drawn) => drawn,
         Err(fault) => return Err(fault),
     };
-    let summary = summary_of(asked, found, &read.totals, &drawn.totals);
+    let failed = found.failed | read.failed | drawn.failed;
+    let summary = summary_of(asked, found.candidate, failed, &read.totals);
     match line_of(alloc, &summary, drawn.notes.bytes()) {
         Ok(line) => Ok(HeldDisk {
             summary,
@@ -144,31 +145,23 @@ fn line_of(alloc: Global, summary: &Summary, notes: &[u8]) -> Result<MemorySink,
     }
 }
 
-/// What the summary has beside its notes, by what two readings came to.
+/// What the summary has beside its notes, by the report's numbers, and by whether a file failed.
 fn summary_of(
     asked: &ArchiveAsked,
-    found: FoundDisk,
-    read: &DumpTotals,
-    drawn: &DumpTotals,
+    candidate: Candidate,
+    failed: bool,
+    totals: &DumpTotals,
 ) -> Summary
     requires few { length asked.now.dumps.now ≤ 16 }
-    ensures { result ≡ summary_of (asked_of asked.now) found read.now drawn.now }
+    ensures { result ≡ summary_of (asked_of asked.now) candidate failed totals.now }
 {
-    let lost = have_lost(read, drawn);
     Summary {
-        format: found.candidate.format,
-        stepping: found.candidate.stepping,
+        format: candidate.format,
+        stepping: candidate.stepping,
         dumps: asked.dumps.len() as u8,
-        totals: *read,
-        status: status_of(found.failed | lost, read),
+        totals: *totals,
+        status: status_of(failed, totals),
     }
-}
-
-/// Whether a file failed in one of two readings.
-fn have_lost(read: &DumpTotals, drawn: &DumpTotals) -> bool
-    ensures { result ≡ have_lost read.now drawn.now }
-{
-    read.lost > 0 || drawn.lost > 0
 }
 
 /// Whether a file failed, and else whether the image is all that can be read there.

@@ -10,7 +10,7 @@ pub enum ArchiveFault {
     Exists,
     /// A dump has none of the disk's files.
     NoFiles(NoFiles),
-    /// No disk explains the first dump.
+    /// No disk explains a dump, and none is asked for.
     NoDisk,
     /// The folder was not made.
     FolderFault,

@@ -1,25 +1,27 @@
 //! Which disk it is.
 
-ghost use Rattle.std.specs.Prelude.{◌≡◌, ◌≤◌, length, IfErr, IfOk};
+ghost use Rattle.std.specs.Prelude.{◌≤◌, length, IfErr, IfOk};
 ghost use Rattle.dump_reading.specs.Files.{shelf_at};
-ghost use Rattle.disk_archive.specs.Finding.{HasBest, HasFound, HasNoBest, HasNotFound, asked_of};
+ghost use Rattle.disk_archive.specs.Finding.{FailedSome, HasFound, HasNotFound, HaveBest, IsAsked, IsUnasked};
+ghost use Rattle.disk_archive.specs.Finding.{LacksBest, asked_of};
 
 use crate::asked::ArchiveAsked;
 use crate::fault::ArchiveFault;
 use crate::held::FoundDisk;
-use dump_identity::{IdentityRoom, identify};
+use dump_identity::{Identity, IdentityRoom, identify};
+use dump_reading::NoFiles;
 use flux_base::{CountingSink, Memory, Word};
 use flux_engine::Stopped;
 use std::alloc::Global;
 use track_shelf::Shelf;
 
-/// The disk that is asked for, or the best of the first dump.
+/// The disk that is asked for, or the best of the first dump that has one.
 pub(crate) fn find_disk<H: Shelf>(
     alloc: Global,
     asked: &ArchiveAsked,
     shelf: &mut H,
 ) -> Result<FoundDisk, ArchiveFault>
-    requires some { 1 ≤ length asked.now.dumps.now }
+    requires few { length asked.now.dumps.now ≤ 16 }
     ensures ok { IfOk result
         (HasFound (asked_of asked.now) (shelf_at H.Source H.Shelf.own shelf.old) (shelf_at H.Source H.Shelf.own shelf.new)) }
     ensures err { IfErr result
@@ -30,16 +32,53 @@ pub(crate) fn find_disk<H: Shelf>(
             candidate,
             failed: false,
         }),
-        None => find_best(alloc, &asked.dumps[0], shelf),
+        None => find_best(alloc, asked.dumps, shelf),
     }
 }
 
-/// The best of a dump.
-fn find_best<H: Shelf>(alloc: Global, dump: &Word, shelf: &mut H) -> Result<FoundDisk, ArchiveFault>
+/// The best of the first dump that has one: the dumps are asked in their order, and none behind it is.
+fn find_best<H: Shelf>(
+    alloc: Global,
+    dumps: &[Word],
+    shelf: &mut H,
+) -> Result<FoundDisk, ArchiveFault>
+    requires few { length dumps.now ≤ 16 }
     ensures ok { IfOk result
-        (HasBest dump.now (shelf_at H.Source H.Shelf.own shelf.old) (shelf_at H.Source H.Shelf.own shelf.new)) }
+        (HaveBest dumps.now (shelf_at H.Source H.Shelf.own shelf.old) (shelf_at H.Source H.Shelf.own shelf.new)) }
     ensures err { IfErr result
-        (HasNoBest dump.now (shelf_at H.Source H.Shelf.own shelf.old) (shelf_at H.Source H.Shelf.own shelf.new)) }
+        (λ fault.
+        LacksBest dumps.now (shelf_at H.Source H.Shelf.own shelf.old) (shelf_at H.Source H.Shelf.own shelf.new) fault
+        × FailedSome (shelf_at H.Source H.Shelf.own shelf.old) (shelf_at H.Source H.Shelf.own shelf.new)) }
+{
+    let mut failed = false;
+    for number in 0..dumps.len() {
+        let identity = match ask(alloc, number as u8, &dumps[number], shelf) {
+            Ok(identity) => identity,
+            Err(fault) => return Err(fault),
+        };
+        failed = failed | identity.failed;
+        if let Some(best) = identity.best {
+            return Ok(FoundDisk {
+                candidate: best.candidate,
+                failed,
+            });
+        }
+    }
+    Err(ArchiveFault::NoDisk)
+}
+
+/// Which disk a dump is of.
+fn ask<H: Shelf>(
+    alloc: Global,
+    number: u8,
+    dump: &Word,
+    shelf: &mut H,
+) -> Result<Identity, ArchiveFault>
+    ensures ok { IfOk result
+        (IsAsked dump.now (shelf_at H.Source H.Shelf.own shelf.old) (shelf_at H.Source H.Shelf.own shelf.new)) }
+    ensures err { IfErr result
+        (IsUnasked number dump.now (shelf_at H.Source H.Shelf.own shelf.old)
+        (shelf_at H.Source H.Shelf.own shelf.new)) }
 {
     let room = match IdentityRoom::reserve(alloc) {
         Ok(room) => room,
@@ -47,14 +86,8 @@ fn find_best<H: Shelf>(alloc: Global, dump: &Word, shelf: &mut H) -> Result<Foun
     };
     let mut nothing = CountingSink::new();
     match identify(dump, room, shelf, &mut nothing) {
-        Ok(identity) => match identity.best {
-            Some(best) => Ok(FoundDisk {
-                candidate: best.candidate,
-                failed: identity.failed,
-            }),
-            None => Err(ArchiveFault::NoDisk),
-        },
-        Err(Stopped::Refused(empty)) => Err(ArchiveFault::NoFiles(empty)),
+        Ok(identity) => Ok(identity),
+        Err(Stopped::Refused(_)) => Err(ArchiveFault::NoFiles(NoFiles { dump: number })),
         // No line is kept.
         Err(Stopped::ReadFault | Stopped::ImageFault | Stopped::NotesFault) => unreachable!(),
     }

@@ -4,6 +4,7 @@ ghost use Rattle.std.specs.Prelude.{◌≡◌, ◌≤◌, [], length, IfErr, IfO
 ghost use Rattle.disk_summary.specs.Dumps.{DrewNoted};
 ghost use Rattle.dump_reading.specs.Files.{shelf_at};
 ghost use Rattle.dump_reading.specs.Outcomes.{disk_of};
+ghost use Rattle.flux_engine.specs.Room.{fresh};
 ghost use Rattle.disk_archive.specs.Reading.{AreFresh, HasDrawn, HasRead, HasReadTo, IsUnread, fault_of};
 
 use crate::fault::ArchiveFault;
@@ -11,6 +12,7 @@ use disk_summary::draw_noted_dumps;
 use dump_reading::{DumpTotals, Dumps, NoFiles, read_dumps};
 use flux_base::{Memory, MemorySink};
 use flux_engine::{DiskRoom, Stopped};
+use scp_notes::note_dumps;
 use sector_images::{Format, image_size};
 use std::alloc::Global;
 use track_shelf::Shelf;
@@ -18,20 +20,22 @@ use track_shelf::Shelf;
 /// Room for a report, a picture or notes, in bytes.
 pub(crate) const TEXT_ROOM: usize = 16_777_216;
 
-/// Image, report, and what they come to in numbers.
+/// Image, report, what they come to in numbers, and whether a file failed.
 #[derive(Drop)]
 pub(crate) struct Report {
     pub image: MemorySink,
     pub report: MemorySink,
     pub totals: DumpTotals,
+    pub failed: bool,
 }
 
-/// A picture and notes, and what they come to in numbers.
+/// A picture and notes, what they come to in numbers, and whether a file failed.
 #[derive(Drop)]
 pub(crate) struct Drawn {
     pub picture: MemorySink,
     pub notes: MemorySink,
     pub totals: DumpTotals,
+    pub failed: bool,
 }
 
 /// A room of so many bytes.
@@ -41,7 +45,7 @@ pub(crate) fn room_of(alloc: Global, size: usize) -> Result<MemorySink, Memory>
     MemorySink::new(alloc, size, Vec::new(alloc))
 }
 
-/// Reads image and report.
+/// Reads image and report, which begins with what is noted of the dumps that are SCP files.
 pub(crate) fn read_report<H: Shelf>(
     alloc: Global,
     format: Format,
@@ -64,17 +68,22 @@ pub(crate) fn read_report<H: Shelf>(
         Ok(rooms) => rooms,
         Err(Memory) => return Err(ArchiveFault::Memory),
     };
+    let noted = match note_dumps(dumps.names, shelf, &mut report) {
+        Ok(failed) => failed,
+        Err(_) => return Err(ArchiveFault::Memory),
+    };
     match read_into(format, dumps, &mut room, shelf, &mut image, &mut report) {
         Ok(totals) => Ok(Report {
             image,
             report,
+            failed: noted | (totals.lost > 0),
             totals,
         }),
         Err(fault) => Err(fault),
     }
 }
 
-/// Reads image and report into rooms in which nothing lies.
+/// Reads image and report into rooms, of which that of the image has nothing.
 fn read_into<H: Shelf>(
     format: Format,
     dumps: &Dumps,
@@ -84,10 +93,11 @@ fn read_into<H: Shelf>(
     report: &mut MemorySink,
 ) -> Result<DumpTotals, ArchiveFault>
     requires few { length dumps.now.names.now ≤ 16 }
-    requires fresh { AreFresh format room.old image.old.written report.old.written }
+    requires fresh { room.old ≡ fresh format }
+    requires empty { image.old.written ≡ [] }
     ensures ok { IfOk result
         (HasReadTo (disk_of dumps.now format) (shelf_at H.Source H.Shelf.own shelf.old)
-        (shelf_at H.Source H.Shelf.own shelf.new) image.new.written report.new.written) }
+        (shelf_at H.Source H.Shelf.own shelf.new) image.new.written report.old.written report.new.written) }
     ensures err { IfErr result
         (IsUnread (disk_of dumps.now format) (shelf_at H.Source H.Shelf.own shelf.old)
         (shelf_at H.Source H.Shelf.own shelf.new)) }
@@ -135,6 +145,7 @@ pub(crate) fn draw<H: Shelf>(
         Ok(totals) => Ok(Drawn {
             picture,
             notes,
+            failed: totals.lost > 0,
             totals,
         }),
         Err(fault) => Err(fault),

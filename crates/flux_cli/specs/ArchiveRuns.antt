@@ -37,7 +37,7 @@ EndsKeeping told dumps (Err Exists) status before after =
 EndsKeeping told dumps (Err (NoFiles empty)) status before after =
     EndsFault told dumps (Refused empty) status before after
 EndsKeeping told dumps (Err NoDisk) status before after =
-    EndsBy (refuses (codes "refused dump 0 no format\n")) status before after
+    EndsBy (refuses (codes "refused no format\n")) status before after
 EndsKeeping told dumps (Err FolderFault) status before after =
     TellsUnmade (codes "failed folder\n") status before after
 EndsKeeping told dumps (Err (FileFault file)) status before after =

@@ -85,7 +85,7 @@ fn end_of_keeping<H: Shelf, N: Sink>(
             shelf,
             notes,
         ),
-        Err(ArchiveFault::NoDisk) => refuse(&line_of("refused dump 0 no format\n"), notes),
+        Err(ArchiveFault::NoDisk) => refuse(&line_of("refused no format\n"), notes),
         Err(ArchiveFault::FolderFault) => tell_unmade(&folder_line(), notes),
         Err(ArchiveFault::FileFault(file)) => tell_unmade(&unmade_line(file), notes),
         Err(ArchiveFault::OutputFault) => Status::ImageFault,

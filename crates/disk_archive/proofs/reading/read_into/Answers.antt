@@ -13,4 +13,4 @@ returns-in-Err-clause-err g c =
     let now = shelf_at g.H.Source g.H.Shelf c.read_dumps.new.shelf in
     subst (λ (f : ArchiveFault). IsUnread (disk_of c.args.dumps.now c.args.format) start now f) (sym c.fault_of.ensures)
     (unread (disk_of c.args.dumps.now c.args.format) start now _ _ _ _ c.in-Err.stop
-    (subst (λ (r : RoomState). SaysOfDumps (disk_of c.args.dumps.now r.format) start now (Some c.args.image.now.written) (Some c.read_dumps.new.image.written) (Some c.args.report.now.written) (Some c.read_dumps.new.notes.written) (Err c.in-Err.stop)) c.requires.fresh.0 c.in-Err.ensures.says))
+    (subst (λ (r : RoomState). SaysOfDumps (disk_of c.args.dumps.now r.format) start now (Some c.args.image.now.written) (Some c.read_dumps.new.image.written) (Some c.args.report.now.written) (Some c.read_dumps.new.notes.written) (Err c.in-Err.stop)) c.requires.fresh c.in-Err.ensures.says))

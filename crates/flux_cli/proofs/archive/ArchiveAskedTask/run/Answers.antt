@@ -3,14 +3,11 @@ use Rattle.disk_archive.specs.Finding.{Asked}
 use Rattle.flux_cli.proofs.Archiving.{keeping-counts}
 use Rattle.flux_cli.proofs.archive.ArchiveAskedTask.run.Goals as goal
 
--- there are dumps, and no more than a call takes
-pub archive-answer-requires-clause-some : goal.archive-answer-requires-clause-some
-archive-answer-requires-clause-some g c = subst (λ (asked : Asked). 1 ≤ length asked.dumps) (sym c.kept_asked-asked.ensures) c.requires.some
-
-pub archive-answer-requires-clause-few : goal.archive-answer-requires-clause-few
-archive-answer-requires-clause-few g c =
+-- there are no more dumps than a call takes
+pub archive-answer-requires : goal.archive-answer-requires
+archive-answer-requires g c =
     let most = c.requires.most in
-    subst (λ (asked : Asked). length asked.dumps ≤ 16) (sym c.kept_asked-asked.ensures) (omega (arith, most))
+    record { few = subst (λ (asked : Asked). length asked.dumps ≤ 16) (sym c.kept_asked-asked.ensures) (omega (arith, most)) }
 
 pub returns-clause-did : goal.returns-clause-did
 returns-clause-did g c =
