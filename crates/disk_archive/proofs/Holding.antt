@@ -1,8 +1,7 @@
 -- A disk that lies in memory, and one that does not.
 use Rattle.std.specs.Prelude.{◌||◌, if◌then◌else◌, nat_lt}
-use Rattle.std.proofs.Common.{◌≡◌, ℕ, Bool, true, false, List, [], Option, Some, Ok, Err, inl, inr, arith, refl, sym, ap, ◌∙◌, subst}
+use Rattle.std.proofs.Common.{◌≡◌, ℕ, Bool, true, false, List, Option, Some, Ok, Err, inl, inr, arith, refl, sym, ap, ◌∙◌, subst}
 use Rattle.std.proofs.lemmas.Bool.Decides.{nat_tests}
-use Rattle.disk_summary.specs.Dumps.{DrewNoted}
 use Rattle.disk_summary.specs.Texts.{notes_text, summary_text}
 use Rattle.disk_summary.specs.declared.note.Note.{Note}
 use Rattle.disk_summary.specs.declared.summary.Summary.{Summary}
@@ -80,9 +79,6 @@ module _ (asked : Asked) (start : ShelfNow) where
     failed_if : FailedIf failed start now
     failed_if = if-then (found.failed || report.failed) drawn.failed (if-then found.failed report.failed has.shelf reads.shelf) draws.shelf
 
-    noted_text : drawn.notes.written ≡ notes_text draws.drew.noted
-    noted_text = draws.drew.both.wrote.grew ∙ draws.drew.text
-
     abbrev held_by : Summary → SinkState → HeldDisk
     held_by summary line = record { summary = summary; image = report.image; report = report.report; picture = drawn.picture; line = line }
 
@@ -98,11 +94,9 @@ module _ (asked : Asked) (start : ShelfNow) where
       between = between;
       read = reads.wrote;
       drawn = drawn.totals;
-      notes = draws.drew.noted;
-      draws = subst
-          (λ (bytes : List ℕ). DrewNoted (disk_as asked found.candidate) between now (Some []) (Some drawn.picture.written) (Some []) (Some bytes) drawn.totals)
-          noted_text draws.drew;
-      line_is = line_is draws.drew.noted noted_text;
+      notes = draws.notes;
+      draws = draws.drew;
+      line_is = line_is draws.notes draws.text;
       dumps = refl;
       failed = failed;
       shelf = failed_if;

@@ -1,9 +1,8 @@
 -- What keeping a disk may answer, and what that says of its dumps, of the files that are made, and of
 -- the line that is written.
-use Rattle.std.specs.Prelude.{◌≡◌, ◌<◌, ◌⊎◌, ℕ, Bool, true, false, if◌then◌else◌, List, []}
+use Rattle.std.specs.Prelude.{◌≡◌, ◌<◌, ◌⊎◌, ℕ, Bool, true, false, if◌then◌else◌, List}
 use Rattle.std.specs.Prelude.{length, Option, Some, None, Result, Ok, Err}
-use Rattle.disk_summary.specs.Dumps.{DrewNoted}
-use Rattle.disk_summary.specs.Texts.{notes_text, summary_text}
+use Rattle.disk_summary.specs.Texts.{summary_text}
 use Rattle.disk_summary.specs.declared.note.Note.{Note}
 use Rattle.disk_summary.specs.declared.summary.Summary.{Summary}
 use Rattle.dump_identity.specs.declared.candidate.Candidate.{Candidate}
@@ -21,7 +20,7 @@ use Rattle.disk_archive.specs.Finding.{Asked, FailedIf, FailedOften, FailedSome,
 use Rattle.disk_archive.specs.Finding.{IsDisk, IsFirstLost}
 use Rattle.disk_archive.specs.Kept.{Kept, kept_of}
 use Rattle.disk_archive.specs.Making.{WritesKept}
-use Rattle.disk_archive.specs.Reading.{WroteBehindNotes}
+use Rattle.disk_archive.specs.Reading.{DrewAllNoted, WroteBehindNotes}
 use Rattle.disk_archive.specs.declared.fault.ArchiveFault.{ArchiveFault}
 use Rattle.disk_archive.specs.declared.fault.ArchiveFault.TheVariants.{Exists, FileFault, FolderFault}
 use Rattle.disk_archive.specs.declared.fault.ArchiveFault.TheVariants.{Memory, NoDisk, NoFiles}
@@ -47,8 +46,8 @@ abbrev pub candidate_of : Summary → Candidate
 candidate_of summary = record { stepping = summary.stepping; format = summary.format }
 
 -- What is kept: the disk was found, and read twice, for its image and report, which begins with what
--- is noted of SCP files, and for its picture and the notes of its summary. Its numbers are the
--- report's, and its status tells all files that failed.
+-- is noted of SCP files, and for its picture and the notes of its summary, to which its files were
+-- measured. Its numbers are the report's, and its status tells all files that failed.
 pub record IsKept (asked : Asked) (start now : ShelfNow) (kept : Kept) : Type 0 where
   pub begun : ShelfNow
   pub disk : IsDisk asked start begun (candidate_of kept.summary)
@@ -58,8 +57,8 @@ pub record IsKept (asked : Asked) (start now : ShelfNow) (kept : Kept) : Type 0 
       kept.report kept.summary.totals
   pub drawn : DumpTotals
   pub notes : List Note
-  pub draws : DrewNoted (disk_as asked (candidate_of kept.summary)) between now (Some [])
-      (Some kept.picture) (Some []) (Some (notes_text notes)) drawn
+  pub draws : DrewAllNoted (disk_as asked (candidate_of kept.summary)) between now kept.picture
+      notes drawn
   pub line_is : kept.line ≡ summary_text kept.summary notes
   pub dumps : kept.summary.dumps ≡ length asked.dumps
   pub failed : Bool

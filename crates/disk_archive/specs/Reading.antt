@@ -1,6 +1,9 @@
 -- The readings of a disk, each into memory.
-use Rattle.std.specs.Prelude.{◌≡◌, ℕ, List, [], Some, None}
+use Rattle.std.specs.Prelude.{◌≡◌, ◌++◌, ℕ, Bool, List, [], length, Some, None}
 use Rattle.disk_summary.specs.Dumps.{DrewNoted}
+use Rattle.disk_summary.specs.Texts.{notes_text}
+use Rattle.disk_summary.specs.Turns.{AreTurnsNoted}
+use Rattle.disk_summary.specs.declared.note.Note.{Note}
 use Rattle.dump_reading.specs.Files.{ShelfNow}
 use Rattle.dump_reading.specs.Outcomes.{DumpDisk, IsToldEmpty, WroteDumps}
 use Rattle.dump_reading.specs.declared.fault.NoFiles.{NoFiles as Empty}
@@ -47,10 +50,37 @@ pub record HasRead (disk : DumpDisk) (start now : ShelfNow) (read : Report) : Ty
   pub wrote : WroteBehindNotes disk start now read.image.written read.report.written read.totals
   pub shelf : FailedIf read.failed start now
 
+-- Picture and notes: these are of what reading the disk finds, and behind that of each file that
+-- turned otherwise than the others of its dump.
+pub record DrewAllNoted (disk : DumpDisk) (start now : ShelfNow) (picture : List ℕ)
+    (notes : List Note) (totals : DumpTotals) : Type 0 where
+  pub between : ShelfNow
+  pub found : List Note
+  pub drew : DrewNoted disk start between (Some []) (Some picture) (Some [])
+      (Some (notes_text found)) totals
+  pub uneven : List Note
+  pub failed : Bool
+  pub turned : AreTurnsNoted disk.dumps (length disk.dumps) between now uneven failed
+  pub notes_are : notes ≡ found ++ uneven
+
 pub record HasDrawn (disk : DumpDisk) (start now : ShelfNow) (drawn : Drawn) : Type 0 where
+  pub notes : List Note
+  pub text : drawn.notes.written ≡ notes_text notes
+  pub drew : DrewAllNoted disk start now drawn.picture.written notes drawn.totals
+  pub shelf : FailedIf drawn.failed start now
+
+-- the disk was drawn, and what reading it finds was noted
+pub record HasDrawnDisk (disk : DumpDisk) (start now : ShelfNow) (drawn : Drawn) : Type 0 where
   pub drew : DrewNoted disk start now (Some []) (Some drawn.picture.written) (Some [])
       (Some drawn.notes.written) drawn.totals
   pub shelf : FailedIf drawn.failed start now
+
+-- the files that turned otherwise were noted behind this, and whether one failed
+pub record HasNotedTurns (dumps : List (List ℕ)) (start now : ShelfNow) (notes notes' : List ℕ)
+    (failed : Bool) : Type 0 where
+  pub uneven : List Note
+  pub are : AreTurnsNoted dumps (length dumps) start now uneven failed
+  pub wrote : notes' ≡ notes ++ notes_text uneven
 
 -- they were not
 abbrev pub IsUnread : DumpDisk → (start now : ShelfNow) → ArchiveFault → Type 0
@@ -58,3 +88,8 @@ IsUnread disk start now Memory = FailedSome start now
 IsUnread disk start now (NoFiles empty) =
     IsToldEmpty disk start.told.files (Some empty.dump) × FailedSome start now
 IsUnread disk start now _ = ⊥
+
+-- the files that turned otherwise were not noted
+abbrev pub IsUnturned : (start now : ShelfNow) → ArchiveFault → Type 0
+IsUnturned start now Memory = FailedSome start now
+IsUnturned start now _ = ⊥

@@ -31,7 +31,8 @@ use track_shelf::Shelf;
 /// the image, a picture of the verdicts, and a summary, which is the last file that is made; where all of it is there,
 /// the folder is whole. The summary goes to `line` too. The report is what `read` has for its notes: it begins with what
 /// is noted of the dumps that are SCP files. The disk is the one that is asked for, or the one by which the first dump
-/// that one explains is explained best. The texts are made in memory, by two readings. Gives how the run ends.
+/// that one explains is explained best. The texts are made in memory, by two readings of the disk and a measuring of its
+/// files' revolutions. Gives how the run ends.
 ///
 /// Where the folder is there, nothing is read. Nothing is made before all was read. After `FileFault` the files before
 /// are whole, and none behind is there.

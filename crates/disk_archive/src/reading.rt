@@ -5,12 +5,14 @@ ghost use Rattle.disk_summary.specs.Dumps.{DrewNoted};
 ghost use Rattle.dump_reading.specs.Files.{shelf_at};
 ghost use Rattle.dump_reading.specs.Outcomes.{disk_of};
 ghost use Rattle.flux_engine.specs.Room.{fresh};
-ghost use Rattle.disk_archive.specs.Reading.{AreFresh, HasDrawn, HasRead, HasReadTo, IsUnread, fault_of};
+ghost use Rattle.disk_archive.specs.Reading.{AreFresh, HasDrawn, HasDrawnDisk, HasNotedTurns, HasRead, HasReadTo};
+ghost use Rattle.disk_archive.specs.Reading.{IsUnread, IsUnturned, fault_of};
 
 use crate::fault::ArchiveFault;
-use disk_summary::draw_noted_dumps;
+use disk_summary::{draw_noted_dumps, note_turns};
 use dump_reading::{DumpTotals, Dumps, NoFiles, read_dumps};
-use flux_base::{Memory, MemorySink};
+use dump_turns::TurnsRoom;
+use flux_base::{Memory, MemorySink, Word};
 use flux_engine::{DiskRoom, Stopped};
 use scp_notes::note_dumps;
 use sector_images::{Format, image_size};
@@ -29,7 +31,7 @@ pub(crate) struct Report {
     pub failed: bool,
 }
 
-/// A picture and notes, what they come to in numbers, and whether a file failed.
+/// A picture and notes, what reading for them comes to in numbers, and whether a file failed.
 #[derive(Drop)]
 pub(crate) struct Drawn {
     pub picture: MemorySink,
@@ -122,7 +124,8 @@ fn rooms_of(
     Ok((room, first, text))
 }
 
-/// Draws the picture, and notes what the summary tells.
+/// Draws the picture, and notes what the summary tells: what reading the disk finds, and behind that each file that
+/// turned otherwise than the others of its dump.
 pub(crate) fn draw<H: Shelf>(
     alloc: Global,
     format: Format,
@@ -132,6 +135,34 @@ pub(crate) fn draw<H: Shelf>(
     requires few { length dumps.now.names.now ≤ 16 }
     ensures ok { IfOk result
         (HasDrawn (disk_of dumps.now format) (shelf_at H.Source H.Shelf.own shelf.old)
+        (shelf_at H.Source H.Shelf.own shelf.new)) }
+    ensures err { IfErr result
+        (IsUnread (disk_of dumps.now format) (shelf_at H.Source H.Shelf.own shelf.old)
+        (shelf_at H.Source H.Shelf.own shelf.new)) }
+{
+    let mut drawn = match draw_disk(alloc, format, dumps, shelf) {
+        Ok(drawn) => drawn,
+        Err(fault) => return Err(fault),
+    };
+    match add_turns(alloc, dumps.names, shelf, &mut drawn.notes) {
+        Ok(turned) => {
+            drawn.failed = drawn.failed | turned;
+            Ok(drawn)
+        }
+        Err(fault) => Err(fault),
+    }
+}
+
+/// Draws the picture, and notes what reading the disk finds.
+fn draw_disk<H: Shelf>(
+    alloc: Global,
+    format: Format,
+    dumps: &Dumps,
+    shelf: &mut H,
+) -> Result<Drawn, ArchiveFault>
+    requires few { length dumps.now.names.now ≤ 16 }
+    ensures ok { IfOk result
+        (HasDrawnDisk (disk_of dumps.now format) (shelf_at H.Source H.Shelf.own shelf.old)
         (shelf_at H.Source H.Shelf.own shelf.new)) }
     ensures err { IfErr result
         (IsUnread (disk_of dumps.now format) (shelf_at H.Source H.Shelf.own shelf.old)
@@ -149,6 +180,30 @@ pub(crate) fn draw<H: Shelf>(
             totals,
         }),
         Err(fault) => Err(fault),
+    }
+}
+
+/// Notes, behind other notes, each file that turned otherwise than the others of its dump. Whether a file failed.
+fn add_turns<H: Shelf>(
+    alloc: Global,
+    dumps: &[Word],
+    shelf: &mut H,
+    notes: &mut MemorySink,
+) -> Result<bool, ArchiveFault>
+    requires few { length dumps.now ≤ 16 }
+    ensures ok { IfOk result
+        (HasNotedTurns dumps.now (shelf_at H.Source H.Shelf.own shelf.old)
+        (shelf_at H.Source H.Shelf.own shelf.new) notes.old.written notes.new.written) }
+    ensures err { IfErr result
+        (IsUnturned (shelf_at H.Source H.Shelf.own shelf.old) (shelf_at H.Source H.Shelf.own shelf.new)) }
+{
+    let mut room = match TurnsRoom::reserve(alloc) {
+        Ok(room) => room,
+        Err(Memory) => return Err(ArchiveFault::Memory),
+    };
+    match note_turns(dumps, &mut room, shelf, notes) {
+        Ok(failed) => Ok(failed),
+        Err(_) => Err(ArchiveFault::Memory),
     }
 }
 
