@@ -32,3 +32,4 @@ pub mod SplitHeadline
 pub mod Unpacking
 pub mod Archiving
 pub mod NotedRun
+pub mod NotedOne

@@ -27,5 +27,6 @@ pub use laws::{
     identity_outcomes_are_one, info_outcomes_are_one, outcomes_are_one, read_outcomes_are_one,
     sector_outcomes_are_one,
 };
+pub use noted::notes_are_one;
 pub use program::run;
 pub use std_streams::{StdMaker, StdShelf, StdSink, StdSource};
