@@ -1,4 +1,4 @@
--- The files, and which of them failed, decide what is noted of dumps.
+-- The files, and which of them failed, decide what is noted of dumps, and the outcome behind that.
 use Rattle.std.proofs.Common.{◌≡◌, ◌∙◌, ℕ, true, false, List, [], ◌∷◌, length, Option, Some, None, refl, sym, ap}
 use Rattle.std.proofs.lemmas.List.Elements.{All-head, All-tail}
 use Rattle.std.specs.Prelude.{All, map, take}
@@ -8,6 +8,9 @@ use Rattle.scp_notes.specs.Dumps.{AllNoted, AreNotesOf, DumpNoted, IsNoted, has_
 use Rattle.scp_notes.specs.Files.{Notes}
 use Rattle.std.specs.Option.{is_none}
 use Rattle.track_shelf.specs.Files.{File}
+use Rattle.track_shelf.specs.Told.{ShelfTold}
+use Rattle.flux_cli.specs.NotedWork.{OneBehindNotes, noted_outcome}
+use Rattle.flux_cli.specs.Work.{Outcome}
 
 head-same : {X : Type 0} (x y : X) (xs ys : List X) → x ∷ xs ≡ y ∷ ys → x ≡ y
 head-same x y xs ys same = cc
@@ -53,3 +56,17 @@ notes-one dumps files start now start' now' mine others a b p q alike =
     (p.are.first.numbers ∙ ap (range_with_len 0) many ∙ sym q.are.first.numbers)
     (p.are.first.names ∙ ap (λ (n : ℕ). take n dumps) many ∙ sym q.are.first.names)
     alike p.are.are q.are.are
+
+-- the files are the same behind the notes
+files-stay : (dumps : List (List ℕ)) (files : List File) (start mid : ShelfNow) (noted : List DumpNoted) → AllNoted dumps start mid noted → start.told.files ≡ Some files → mid.told.files ≡ Some files
+files-stay dumps files start mid noted all mine = ap (λ (t : ShelfTold). t.files) all.are.told ∙ mine
+
+module _ (dumps : List (List ℕ)) (Gives : (start now : ShelfNow) → Outcome → Type 0)
+    (Alike : (start now start' now' : ShelfNow) (a b : Outcome) → Gives start now a → Gives start' now' b → Type 0) (files : List File) where
+  pub one-behind-notes : ((start now start' now' : ShelfNow) → start.told.files ≡ Some files → start'.told.files ≡ Some files → (a b : Outcome) (p : Gives start now a) (q : Gives start' now' b)
+      → Alike start now start' now' a b p q → a ≡ b) → OneBehindNotes dumps Gives Alike files
+  one-behind-notes own = λ start now start' now' mine others a b p q failed alike.
+      let notes : p.noted ≡ q.noted = notes-one dumps files start p.mid start' q.mid mine others p.noted q.noted p.noted_are q.noted_are failed in
+      let same : p.own ≡ q.own = own p.mid now q.mid now' (files-stay dumps files start p.mid p.noted p.noted_are mine) (files-stay dumps files start' q.mid q.noted q.noted_are others)
+      p.own q.own p.gives q.gives alike in
+      p.is ∙ ap (λ (n : List DumpNoted). noted_outcome n p.own) notes ∙ ap (noted_outcome q.noted) same ∙ sym q.is

@@ -1,6 +1,6 @@
 -- What a command over dumps does that tells first what is noted of those that are SCP files: behind
 -- these lines it is what its own row says.
-use Rattle.std.specs.Prelude.{◌≡◌, ◌⊎◌, ◌++◌, ℕ, Bool, true, List, Option}
+use Rattle.std.specs.Prelude.{◌≡◌, ◌⊎◌, ◌++◌, ℕ, Bool, true, List, map, Option, Some}
 use Rattle.std.specs.Io.KnownBytes.{Appends}
 use Rattle.std.specs.List.{list_any}
 use Rattle.dump_reading.specs.Files.{ShelfNow}
@@ -8,6 +8,7 @@ use Rattle.flux_base.specs.declared.status.Status.{Status}
 use Rattle.flux_base.specs.declared.status.Status.TheVariants.{AllGood, NotAllGood, NotesFault}
 use Rattle.flux_base.specs.declared.status.Status.TheVariants.{Refused, ShelfFault}
 use Rattle.scp_notes.specs.Dumps.{AllNoted, AreNoted, DumpNoted, has_failed, texts_of}
+use Rattle.track_shelf.specs.Files.{File}
 use Rattle.flux_cli.specs.ShelfWork.{dumps_work}
 use Rattle.flux_cli.specs.Work.{GotNothing, GotPart, Growth, Outcome, Work}
 
@@ -36,6 +37,18 @@ pub record OfNoted (dumps : List (List ℕ)) (Gives : (start now : ShelfNow) →
   pub own : Outcome
   pub gives : Gives mid now own
   pub is : o ≡ noted_outcome noted own
+
+-- Over these files two such outcomes are one, where the same files failed as they were looked at
+-- for notes, and behind these alike.
+abbrev pub OneBehindNotes : (dumps : List (List ℕ))
+    (Gives : (start now : ShelfNow) → Outcome → Type 0)
+    (Alike : (start now start' now' : ShelfNow) (a b : Outcome) → Gives start now a
+    → Gives start' now' b → Type 0) → (files : List File) → Type 0
+OneBehindNotes dumps Gives Alike files = (start now start' now' : ShelfNow)
+    → start.told.files ≡ Some files → start'.told.files ≡ Some files → (a b : Outcome)
+    (p : OfNoted dumps Gives start now a) (q : OfNoted dumps Gives start' now' b)
+    → map has_failed p.noted ≡ map has_failed q.noted
+    → Alike p.mid now q.mid now' p.own q.own p.gives q.gives → a ≡ b
 
 -- the notes failed inside the lines of a dump
 pub record CutInNotes (dumps : List (List ℕ)) (start now : ShelfNow)

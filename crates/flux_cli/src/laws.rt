@@ -1,11 +1,12 @@
 //! What the definition of an outcome comes to.
 
-ghost use Rattle.std.specs.Prelude.{◌≡◌, ℕ, List, Some};
+ghost use Rattle.std.specs.Prelude.{◌≡◌, ℕ, List, [], ◌∷◌, Some};
 ghost use Rattle.dump_reading.specs.Files.{ShelfNow};
 ghost use Rattle.dump_reading.specs.Outcomes.{DumpDisk};
 ghost use Rattle.flux_cli.specs.ReadRuns.{FailedAsRead, IsOutcomeOfDumps};
 ghost use Rattle.flux_cli.specs.IdentityRuns.{FailedAsIdentified, IsOutcomeOfDump};
 ghost use Rattle.flux_cli.specs.InfoRuns.{FailedAsTold, IsOutcomeOfInfo};
+ghost use Rattle.flux_cli.specs.NotedWork.{OneBehindNotes};
 ghost use Rattle.flux_cli.specs.SectorRuns.{FailedAsShown, IsOutcomeOfSector, ReadingsOfShown};
 ghost use Rattle.flux_cli.specs.Work.{Outcome};
 ghost use Rattle.flux_cli.specs.Works.{IsOutcome};
@@ -25,13 +26,15 @@ pub fn outcomes_are_one()
     flux_engine::plans_are_right()
 }
 
-/// What is shown, the dumps, the files on the shelf, and which of them failed, decide the outcome of
-/// `read`: there is one at most.
+/// What is shown, the dumps, the files on the shelf, and which of them failed, decide the outcome of `read`: there is
+/// one at most, of its own and behind what is noted of SCP files.
 pub fn read_outcomes_are_one()
-    ensures { (shown : Shown) (disk : DumpDisk) (files : List File) (start now start' now' : ShelfNow)
+    ensures own { (shown : Shown) (disk : DumpDisk) (files : List File) (start now start' now' : ShelfNow)
         → start.told.files ≡ Some files → start'.told.files ≡ Some files
         → (a b : Outcome) (p : IsOutcomeOfDumps shown disk start now a) (q : IsOutcomeOfDumps shown disk start' now' b)
         → FailedAsRead shown disk start now start' now' a b p q → a ≡ b }
+    ensures noted { (shown : Shown) (disk : DumpDisk) (files : List File)
+        → OneBehindNotes disk.dumps (IsOutcomeOfDumps shown disk) (FailedAsRead shown disk) files }
 {
     law_read_dumps::all_of_dumps_is_one()
 }
@@ -47,12 +50,15 @@ pub fn identity_outcomes_are_one()
     dump_identity::identities_are_one()
 }
 
-/// A dump, the files on the shelf, and which of them failed, decide the outcome of `info`: there is one at most.
+/// A dump, the files on the shelf, and which of them failed, decide the outcome of `info`: there is one at most, of its
+/// own and behind what is noted of an SCP file.
 pub fn info_outcomes_are_one()
-    ensures { (dump : List ℕ) (files : List File) (start now start' now' : ShelfNow) → start.told.files ≡ Some files
-        → start'.told.files ≡ Some files
+    ensures own { (dump : List ℕ) (files : List File) (start now start' now' : ShelfNow)
+        → start.told.files ≡ Some files → start'.told.files ≡ Some files
         → (a b : Outcome) (p : IsOutcomeOfInfo dump start now a) (q : IsOutcomeOfInfo dump start' now' b)
         → FailedAsTold dump start now start' now' a b p q → a ≡ b }
+    ensures noted { (dump : List ℕ) (files : List File)
+        → OneBehindNotes (dump ∷ []) (IsOutcomeOfInfo dump) (FailedAsTold dump) files }
 {
     dump_turns::turns_are_one()
 }
