@@ -1,12 +1,12 @@
--- What `archive` did: all was kept of a disk of its dumps, as files of a folder, and the image got the
--- line of its summary.
-use Rattle.std.specs.Prelude.{◌≡◌, ℕ, List, ◌++◌, codes, Option, Result, Ok, Err}
+-- What `archive` did: all was kept of a disk of its dumps, as files of a folder, and the image got
+-- the line of its summary.
+use Rattle.std.specs.Prelude.{ℕ, List, codes, Option, Result, Ok, Err}
 use Rattle.disk_archive.specs.Answers.{SaysOfArchive, ShelfDid, archive_blame}
 use Rattle.disk_archive.specs.Finding.{Asked}
 use Rattle.disk_archive.specs.declared.fault.ArchiveFault.{ArchiveFault}
-use Rattle.disk_archive.specs.declared.fault.ArchiveFault.TheVariants.{Exists, FileFault, FolderFault}
-use Rattle.disk_archive.specs.declared.fault.ArchiveFault.TheVariants.{Memory, NoDisk, NoFiles}
-use Rattle.disk_archive.specs.declared.fault.ArchiveFault.TheVariants.{OutputFault}
+use Rattle.disk_archive.specs.declared.fault.ArchiveFault.TheVariants.{Exists, FileFault}
+use Rattle.disk_archive.specs.declared.fault.ArchiveFault.TheVariants.{FolderFault, Memory, NoDisk}
+use Rattle.disk_archive.specs.declared.fault.ArchiveFault.TheVariants.{NoFiles, OutputFault}
 use Rattle.disk_archive.specs.declared.names.KeptFile.{KeptFile}
 use Rattle.disk_archive.specs.declared.names.KeptFile.TheVariants.{Image, Picture, Report, Summary}
 use Rattle.flux_base.specs.Blames.{CountsBy, no_counts, three_counts}
@@ -45,8 +45,9 @@ EndsKeeping told dumps (Err (FileFault file)) status before after =
 EndsKeeping told dumps (Err OutputFault) status before after =
     EndsBy (ends ImageFault) status before after
 
--- The disk was kept as the answer says, which ended the command. All that the shelf did is that files
--- failed, which the answer tells; and what makes files, or the image, failed as it blames them.
+-- The disk was kept as the answer says, which ended the command. All that the shelf did is that
+-- files failed, which the answer tells; and what makes files, or the image, failed as it blames
+-- them.
 pub record Keeps {S W N H M : Type 0} (asked : Asked) (status : Status)
     (before after : World S W N H M) : Type 0 where
   pub answer : Result Status ArchiveFault
