@@ -33,6 +33,7 @@ SIZES = (1 << 20, 1 << 22)
 RUNS = 9
 PEAK = 128
 END = b"\r" * 4
+FOLDER = "FOLDER"
 USED = ("ibm-3740", "ibm-1440", "amiga", "c1541", "apple-do")
 
 
@@ -329,14 +330,16 @@ class Table:
     def __init__(self, program, work, count):
         self.program, self.work, self.count = program, work, count
         self.rows, self.wrong, self.worst, self.peak = 0, 0, 0, 0
-        print(f"{'command':22} {'input':38} {'small':>9} {'large':>9} {'ratio':>6} {'MiB':>6}")
+        print(f"{'command':32} {'input':38} {'small':>9} {'large':>9} {'ratio':>6} {'MiB':>6}")
 
     def row(self, words, name, small, large, most=4.4, other=None, dumps=0, beside=(), made=False, ending="00.0.raw"):
         """A row: the command over the small input and over the large one, or another command over the large one. The input is the file of
-        the first track in so many dumps, and those of further tracks beside it, or an SCP file, by the ending of its name; or what is read where there are none. It may be made files of."""
+        the first track in so many dumps, and those of further tracks beside it, or an SCP file, by the ending of its name; or what is read where there are none. It may be made files of,
+        in a folder that the words name before the dumps as FOLDER, or that is the last word."""
         with tempfile.TemporaryDirectory(dir=self.work) as folder:
             inputs = Path(folder, f"small{ending}"), Path(folder, f"large{ending}")
-            runs = [[self.program, *wanted, *dumps * [str(path)], *made * [f"{path}-tracks"]] for wanted, path in zip((words, other or words), inputs)]
+            runs = [[self.program, *(f"{path}-tracks" if word == FOLDER else word for word in wanted), *dumps * [str(path)], *made * [f"{path}-tracks"]]
+                    for wanted, path in zip((words, other or words), inputs)]
             for path, data in zip(inputs, (small, large)):
                 for track in ("00.0", *beside):
                     Path(folder, path.name.replace("00.0", track)).write_bytes(data)
@@ -349,7 +352,7 @@ class Table:
         self.rows += 1
         self.wrong += wrong
         self.worst, self.peak = max(self.worst, ratio / most), max(self.peak, peak)
-        print(f"{' '.join(words):22} {name:38} {seconds * 1e3:9.1f} {more * 1e3:9.1f} {ratio:6.2f} {peak:6.1f}{'  NOT' * wrong}", flush=True)
+        print(f"{' '.join(words):32} {name:38} {seconds * 1e3:9.1f} {more * 1e3:9.1f} {ratio:6.2f} {peak:6.1f}{'  NOT' * wrong}", flush=True)
 
 
 def options():
@@ -394,26 +397,32 @@ def measured(table, wanted):
         for form in (FORMATS[name] for name in USED):
             for name, make in [LONGEST] * has_codes(form) + [NAMES] + RETRIED + [TRACKS[0], TRACKS[3], TRACKS[6]]:
                 table.row(["identify"], f"{name}, {form.word}", *(make(form, size) for size in SIZES), dumps=1)
+    if "archive" in wanted:
+        for form in (FORMATS[name] for name in USED):
+            for name, make in [LONGEST] * has_codes(form) + [NAMES] + RETRIED + TRACKS:
+                table.row(["archive", "--format", form.word, FOLDER], name, *(make(form, size) for size in SIZES), dumps=1)
     if "imd" in wanted:
         for form in (FORMATS[name] for name in USED[:2]):
             for name, make in [LONGEST, NAMES] + RETRIED + TRACKS:
                 table.row(["imd"], f"{name}, {form.word}", *(make(form, size) for size in SIZES), dumps=1)
-        for name, make in STREAMS:
-            table.row(["imd"], name, *(make(FORMATS["ibm-720"], size) for size in SIZES), dumps=1)
     if "unpack" in wanted:
         for name, count, revolutions in SCP_FILES:
             table.row(["unpack"], name, *(scp_of(size, count, revolutions) for size in SIZES), dumps=1, made=True)
-    # (Of many tracks the heads are half of the small file, and entries alone take time in `imd`.)
-    for words, files in (["read", "ibm-720"], SCP_FILES), (["info"], SCP_FILES), (["imd"], SCP_FILES[:3]):
+    # (Of many tracks the heads are half of the small file, and entries alone take time in `imd`, `identify` and `archive`.)
+    for words, files in ((["read", "ibm-720"], SCP_FILES), (["info"], SCP_FILES), (["show", "ibm-720", "0.0", "1"], SCP_FILES),
+                         (["imd"], SCP_FILES[:3]), (["identify"], SCP_FILES[:3]), (["archive", "--format", "ibm-720", FOLDER], SCP_FILES[:3])):
         for name, count, revolutions in files if words[0] in wanted else []:
             table.row(words, f"SCP, {name}", *(scp_of(size, count, revolutions) for size in SIZES), dumps=1, ending=".scp")
     if "show" in wanted:
         for form in (FORMATS[name] for name in USED):
-            for name, make in [CONTENTS] + RETRIED + TRACKS[:4]:
+            for name, make in [LONGEST] * has_codes(form) + [CONTENTS, NAMES] + RETRIED + TRACKS:
                 table.row(["show", form.word, "0.0", str(form.recording.first)], name, *(make(form, size) for size in SIZES), dumps=1)
-    if "info" in wanted:
+    for words in ["identify"], ["imd"], ["info"], ["archive", "--format", "ibm-720", FOLDER], ["show", "ibm-720", "0.0", "1"]:
+        for name, make in STREAMS if words[0] in wanted else []:
+            table.row(words, name, *(make(FORMATS["ibm-720"], size) for size in SIZES), dumps=1)
+    if "split" in wanted:
         for name, make in STREAMS:
-            table.row(["info"], name, *(make(FORMATS["ibm-720"], size) for size in SIZES), dumps=1)
+            table.row(["split", FOLDER, "2"], name, *(make(FORMATS["ibm-720"], size) for size in SIZES))
     if "decode-set" in wanted:
         for form in (FORMATS[name] for name in USED):
             for name, make in TRACKS[:3]:
