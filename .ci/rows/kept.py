@@ -30,10 +30,10 @@ def disk(folder, step=1):
             for k, (cylinder, head) in enumerate(FORM.tracks)}
 
 
-def slower(folder, k):
-    """One of these files, of a drive that turns by one in a hundred slower."""
-    cylinder, head = FORM.tracks[k]
-    return {track_file(folder, cylinder, head): stream_of(FORM.ring_of(counted(FORM.image_bytes), k), 101 * FORM.nominal(cylinder) // 100)}
+def slower(folder, *numbers):
+    """The files of tracks of such numbers, of a drive that turns by one in a hundred slower."""
+    ring = lambda k: FORM.ring_of(counted(FORM.image_bytes), k)
+    return {track_file(folder, *FORM.tracks[k]): stream_of(ring(k), 101 * FORM.nominal(FORM.tracks[k][0]) // 100) for k in numbers}
 
 
 def without(files, *tracks):
@@ -83,9 +83,10 @@ def rows():
     yield row("all of a dump with headers of others", [*NAMED, "kept", "a"], others, 1, '"verdict":"missing"')
     slow = whole | slower("a", 3)
     yield row("all of a dump with a file of a slower drive", [*NAMED, "kept", "a"], slow, 0, '"notes":[{"cylinder":1,"head":1,"dump":0,"uneven":')
-    yield row("all of two dumps with such files", [*NAMED, "kept", "a", "b"], slow | disk("b") | slower("b", 0) | {track_file("b", 98, 0): None}, 8,
-              '"notes":[{"cylinder":98,"head":0,"dump":1,"unread":"failed"},{"cylinder":1,"head":1,"dump":0,"uneven":4853515},'
-              '{"cylinder":0,"head":0,"dump":1,"uneven":4853515}],"status":8')
+    # Each dump has a median of its own: the first track of the second one turned faster than its others.
+    both = slow | disk("b") | slower("b", 1, 2, 3) | {track_file("b", 98, 0): None}
+    yield row("all of two dumps with such files", [*NAMED, "kept", "a", "b"], both, 8, '"notes":[{"cylinder":98,"head":0,"dump":1,"unread":"failed"},'
+              '{"cylinder":1,"head":1,"dump":0,"uneven":4853515},{"cylinder":0,"head":0,"dump":1,"uneven":4805468}],"status":8')
     packed = in_scp_file(whole)
     yield row("all of an SCP file", ["archive.d/kept", "archive.d/disk.scp"], {"archive.d/disk.scp": packed}, 0, NUMBERS % (64, 0))
     summed = packed[:12] + (sum(packed[16:]) + 1).to_bytes(4, "little") + packed[16:]
