@@ -90,7 +90,8 @@ def rows():
     packed = in_scp_file(whole)
     yield row("all of an SCP file", ["archive.d/kept", "archive.d/disk.scp"], {"archive.d/disk.scp": packed}, 0, NUMBERS % (64, 0))
     summed = packed[:12] + (sum(packed[16:]) + 1).to_bytes(4, "little") + packed[16:]
-    yield row("all of an SCP file with another sum", [*NAMED, "kept", "disk.scp"], {"disk.scp": summed}, 0, report=b"dump 0 scp sum ")
+    files = disk("b") | {"disk.scp": summed}
+    yield row("all of two dumps, one an SCP file with another sum", [*NAMED, "kept", "b", "disk.scp"], files, 0, '"dumps":2,', report=b"dump 1 scp sum ")
     damaged = packed.replace(b"TRK\x03", b"TRX\x03", 1)
     yield row("all of an SCP file with a damaged track", [*NAMED, "kept", "disk.SCP"], {"disk.SCP": damaged}, 1,
               '"notes":[{"cylinder":1,"head":1,"dump":0,"unread":"refused scp","fault":"BadSignature"},')
@@ -100,8 +101,9 @@ def rows():
     yield row("all in a folder of none", [*NAMED, "none/kept", "a"], whole, 8, "failed folder\n")
     yield row("all of a dump without a disk", ["kept", "a"], {"a/track00.0.raw": SHORT}, 2, "refused no format\n")
     none = {track_file("none", 0, 0): SHORT}
-    second = row("all of a dump without a disk and one with one", [*NAMED, "kept", "none", "a"], none | whole, 0, '"dumps":2,' + NUMBERS % (64, 0))
-    yield dataclasses.replace(second, words=["archive", "kept", "none", "a"])
+    for names in (["none", "a"], ["a", "none"]):
+        found = row(f"all of {' and '.join(names)}, of which one has a disk", [*NAMED, "kept", *names], none | whole, 0, '"dumps":2,' + NUMBERS % (64, 0))
+        yield dataclasses.replace(found, words=["archive", "kept", *names])
     yield row("all of two dumps without a disk", ["kept", "none", "none/track00.0.raw"], none, 2, "refused no format\n")
     yield row("all of a dump without a disk and of none", ["kept", "none", "b", "a"], none | whole, 2, "refused dump 1 b is not there\n")
     yield row("all of no dump", [*NAMED, "kept", "a", "b"], whole, 2, "refused dump 1 b is not there\n")
