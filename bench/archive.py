@@ -4,8 +4,8 @@ usage: bench/run archive PROGRAM [COUNT]     (COUNT: 200 dumps)
 
 PROGRAM writes disks of random bytes, of twenty formats in turn, as dumps. Of each second one a track is then damaged, in one of the ways below, and
 some are SCP files. Compared with the truth: the table that the script prints, the lines of standard output, each image, and each summary's notes; with
-`read` and `read --picture` of the same dump, to the byte: image, report, picture and exit code. At the end stands the processor time of all, against
-that of `identify` and `read`. Four run at once.
+`read` and `read --picture` of the same dump, to the byte: image, report, picture and exit code; with `info`: the files that turned unlike the others. At
+the end stands the processor time of all, against that of `identify` and `read`. Four run at once.
 """
 import dataclasses
 import json
