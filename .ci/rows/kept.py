@@ -54,10 +54,10 @@ def row(name, words, files, code, said=None, most=None, report=b""):
     ends, output, errors, left = plain_archive.archive(asked, outside, True, True)
 
     def wrong(came, notes):
-        if code < 2 and "notes" not in json.loads(came):
-            return "no summary"
         if ends != code or said is not None and said.encode() not in output + errors:
             return f"the plain reading ends with {ends}: {output + errors!r}"
+        if code < 2 and "notes" not in json.loads(output):
+            return "no summary"
         if not left.get(asked[1] + b"/report.txt", b"").startswith(report):
             return "no such report"
     return Row(name, ["archive", *words], b"", code, output, errors, wrong, files=files, left={path.decode(): content for path, content in left.items()}, most=most)
