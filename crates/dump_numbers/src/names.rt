@@ -1,6 +1,8 @@
 //! The sector numbers of a track's own names that have whole data.
 
-ghost use Rattle.std.specs.Prelude.{◌≡◌, ◌≢◌, ◌↔◌, ◌<◌, ◌≤◌, ℕ, true, drop, length, IsTrue, IfNone, IfSome};
+ghost use Rattle.std.specs.Prelude.{◌≡◌, ◌≢◌, ◌↔◌, ◌<◌, ◌≤◌, ◌+◌, ℕ, true, drop, length, take, IsTrue};
+ghost use Rattle.std.specs.Prelude.{IfNone, IfSome};
+ghost use Rattle.cell_bits.specs.Ones.{ones};
 ghost use Rattle.flux_base.specs.declared.header_name.HeaderName.TheVariants.{Address as AddressOf};
 ghost use Rattle.flux_engine.specs.Gathering.{AreCellsOf};
 ghost use Rattle.ibm_disks.specs.Numbers.{code_of};
@@ -48,9 +50,11 @@ pub(crate) fn track_names(rate: Rate, own: TrackId, flux: &TrackFlux, cells: &Ce
     let mut names = NameSet::empty();
     let mut others = NameSet::empty();
     let mut from = 0;
+    let mut passed = 0;
     while let Some((place, name)) = next_name(&recording, cells, from) {
-        note_name(rate, own, flux, cells, place, name, &mut names);
-        note_name(rate, across, flux, cells, place, name, &mut others);
+        passed += cells.ones_between(from, place + 1);
+        note_name(rate, own, flux, cells, place, passed, name, &mut names);
+        note_name(rate, across, flux, cells, place, passed, name, &mut others);
         from = place + 1;
     }
     TrackNames {
@@ -59,18 +63,21 @@ pub(crate) fn track_names(rate: Rate, own: TrackId, flux: &TrackFlux, cells: &Ce
     }
 }
 
-/// Adds the sector number of a header that stands at a place, where its name is an own one and has whole data.
+/// Adds the sector number of a header that stands at a place, where its name is an own one and has whole data. So many
+/// ones stand up to the place.
 fn note_name(
     rate: Rate,
     own: TrackId,
     flux: &TrackFlux,
     cells: &Cells,
     place: usize,
+    ones_to: usize,
     name: HeaderName,
     names: &mut NameSet,
 )
     requires turns { 2 ≤ length flux.now.indexes }
     requires cells { AreCellsOf flux.now.times cells.now.cells }
+    requires ones { ones_to ≡ ones (take (place + 1) cells.now.cells) }
     requires within { place < length cells.now.cells }
     ensures full { length names.new ≡ length names.old }
     ensures adds { AddsName rate own flux.now.times flux.now.indexes cells.now.cells place name names.old names.new }
@@ -78,7 +85,7 @@ fn note_name(
     let Some((size, number)) = own_number(own, name) else {
         return;
     };
-    if has_whole(rate, size, flux, cells, place) {
+    if has_whole(rate, size, flux, cells, place, ones_to) {
         names.insert(size, number);
     }
 }
@@ -115,27 +122,38 @@ fn own_number(own: TrackId, name: HeaderName) -> Option<(SectorSize, u8)>
     }
 }
 
-/// Whether data of a size and a rate stand behind the header at a place.
-fn has_whole(rate: Rate, size: SectorSize, flux: &TrackFlux, cells: &Cells, place: usize) -> bool
+/// Whether data of a size and a rate stand behind the header at a place, up to which so many ones stand.
+fn has_whole(
+    rate: Rate,
+    size: SectorSize,
+    flux: &TrackFlux,
+    cells: &Cells,
+    place: usize,
+    ones_to: usize,
+) -> bool
     requires turns { 2 ≤ length flux.now.indexes }
     requires cells { AreCellsOf flux.now.times cells.now.cells }
+    requires ones { ones_to ≡ ones (take (place + 1) cells.now.cells) }
     requires within { place < length cells.now.cells }
     ensures { IsTrue result ↔ HasWholeAt rate flux.now.times flux.now.indexes cells.now.cells size place }
 {
     let recording = recording_with_one(rate, size);
-    has_data_of(&recording, rate, flux, cells, place)
+    has_data_of(&recording, rate, flux, cells, place, ones_to)
 }
 
-/// Whether data of the recording's size and of a rate stand behind the header at a place.
+/// Whether data of the recording's size and of a rate stand behind the header at a place, up to which so many ones
+/// stand.
 fn has_data_of<R: Recording>(
     recording: &R,
     rate: Rate,
     flux: &TrackFlux,
     cells: &Cells,
     place: usize,
+    ones_to: usize,
 ) -> bool
     requires turns { 2 ≤ length flux.now.indexes }
     requires cells { AreCellsOf flux.now.times cells.now.cells }
+    requires ones { ones_to ≡ ones (take (place + 1) cells.now.cells) }
     requires within { place < length cells.now.cells }
     ensures { IsTrue result ↔ HasDataOf rate flux.now.times flux.now.indexes cells.now.cells
         (R.data_at recording.now (drop place cells.now.cells)) place }
@@ -143,7 +161,7 @@ fn has_data_of<R: Recording>(
     let mut buffer = SectorBuffer::new();
     let mut from = 0;
     while let Some(behind) = recording.next_data(cells, place, from, &mut buffer) {
-        if is_of_rate(rate, flux, cells, place, behind) {
+        if is_of_rate(rate, flux, cells, place, ones_to, behind) {
             return true;
         }
         from = behind + 1;
