@@ -8,6 +8,7 @@ use Rattle.flux_base.specs.Outside.{AppendsPart}
 use Rattle.flux_base.specs.lemmas.Parts.{AppendsPart-second}
 use Rattle.flux_base.specs.Blames.{CountsBy, no_counts, three_counts}
 use Rattle.flux_base.specs.Counts.{FaultCounts}
+use Rattle.sector_images.specs.declared.format.Format.{Format}
 use Rattle.sector_report.specs.declared.totals.Totals.{Totals}
 use Rattle.flux_engine.specs.Disks.{images, lines}
 use Rattle.flux_engine.specs.Tracks.{TrackPart}
@@ -160,6 +161,16 @@ module _ (of : TrackLinesOf) (beside_of : LinesOf) (disk : DumpDisk) (start : Sh
     drawn-stopped written notes' (Refused empty) stops = absurd stops
     drawn-stopped written notes' ImageFault stops = cut-field written notes' stops
     drawn-stopped written notes' NotesFault stops = record { top = top; begun = begun; cut = stops }
+
+-- the same by the format
+pub drawn-whole : (of : TrackLinesOf) (beside_of : LinesOf) (disk : DumpDisk) (start now : ShelfNow) (before top notes notes' : Option (List ℕ)) (format : Format)
+    (written picture' : Option (List ℕ)) (totals : DumpTotals) → disk.format ≡ format → Appends before top (top_by (codes "read") format)
+    → HasTracksBy (dumps_part_with of) beside_of disk start now top written notes notes' totals → Appends written picture' (dumps_foot (layout_of format) totals)
+    → DrewWithLines of beside_of disk start now before picture' notes notes' totals
+drawn-whole of beside_of disk start now before top notes notes' format written picture' totals same begun h foot =
+    drawn-all of beside_of disk start before notes now top
+    (subst (λ (f : Format). Appends before top (top_by (codes "read") f)) (sym same) begun) written notes' picture' totals h
+    (subst (λ (f : Format). Appends written picture' (dumps_foot (layout_of f) totals)) (sym same) foot)
 
 -- where there are no lines, their sink has not failed
 pub unlined : (disk : DumpDisk) (start now : ShelfNow) (picture picture' : Option (List ℕ)) (answer : Result DumpTotals (Stopped NoFiles)) (p p' : FaultCounts)

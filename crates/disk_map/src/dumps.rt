@@ -1,14 +1,19 @@
 //! A picture of a disk that is read of its dumps.
 
-ghost use Rattle.std.specs.Prelude.{◌≡◌, ◌≤◌, length};
+ghost use Rattle.std.specs.Prelude.{◌≡◌, ◌≤◌, ℕ, List, Option, codes, length, OnOk};
+ghost use Rattle.std.specs.Io.KnownBytes.{Appends};
 ghost use Rattle.flux_base.specs.Blames.{CountsBy, no_counts, three_counts};
 ghost use Rattle.flux_base.specs.Moments.{Puts};
 ghost use Rattle.flux_base.specs.World.{sink_at, sink_counts, sinks_counts};
 ghost use Rattle.flux_engine.specs.Room.{fresh};
 ghost use Rattle.flux_engine.specs.Blamed.{sink_blame};
-ghost use Rattle.dump_reading.specs.Files.{shelf_at};
-ghost use Rattle.dump_reading.specs.Outcomes.{disk_of};
-ghost use Rattle.disk_map.specs.Dumps.{SaysOfDrawing, SaysOfLined, dumps_foot};
+ghost use Rattle.dump_reading.specs.Beside.{LinesOf};
+ghost use Rattle.dump_reading.specs.Files.{ShelfNow, shelf_at};
+ghost use Rattle.dump_reading.specs.Outcomes.{DumpDisk, HasTracksBy, disk_of};
+ghost use Rattle.disk_map.specs.Dumps.{DrewWithLines, SaysOfDrawing, SaysOfLined, dumps_foot, dumps_part_with};
+ghost use Rattle.disk_map.specs.Maps.{TrackLinesOf};
+ghost use Rattle.disk_map.specs.Places.{layout_of};
+ghost use Rattle.disk_map.specs.Texts.{top_by};
 
 use crate::disk::write_top;
 use crate::field_writer::{FieldWriter, LineWriter};
@@ -17,7 +22,8 @@ use crate::text::write_text;
 use crate::texts::{counts_text, foot_text};
 use dump_reading::{DumpTotals, Dumps, Looks, NoFiles, Unsaid, find_empty, read_dump_tracks};
 use flux_base::{CountingSink, Failed, Sink};
-use flux_engine::{Clocks, DiskRoom, Stopped, room_format};
+use flux_engine::{Clocks, DiskRoom, NoSecond, Stopped, room_format};
+use sector_images::Format;
 use sector_report::{Naming, total_line, unread_line};
 use track_shelf::Shelf;
 
@@ -75,7 +81,7 @@ pub fn draw_dumps<L: LineWriter, H: Shelf, P: Sink, N: Sink>(
         None => {}
         Some(dump) => return Err(Stopped::Refused(NoFiles { dump })),
     }
-    match write_top("read", format, picture) {
+    match begin_drawing(format, picture) {
         Ok(()) => {}
         Err(Failed) => return Err(Stopped::ImageFault),
     }
@@ -83,6 +89,7 @@ pub fn draw_dumps<L: LineWriter, H: Shelf, P: Sink, N: Sink>(
         naming: Naming::ByCaptureAndClock,
         lines,
     };
+    let mut none = NoSecond;
     let totals = match read_dump_tracks(
         Clocks::Both,
         Looks::Always,
@@ -93,17 +100,45 @@ pub fn draw_dumps<L: LineWriter, H: Shelf, P: Sink, N: Sink>(
         shelf,
         picture,
         notes,
+        &mut none,
     ) {
         Ok(totals) => totals,
         Err(fault) => return Err(fault),
     };
-    match write_foot(Layout::of_format(format), &totals, picture) {
+    match end_drawing(format, &totals, picture) {
         Ok(()) => Ok(totals),
         Err(Failed) => Err(Stopped::ImageFault),
     }
 }
 
-/// Writes what stands behind the fields: what was passed over and what else was told, the legend, and the totals.
+/// Writes what stands before the fields of a picture of dumps.
+pub fn begin_drawing<P: Sink>(format: Format, picture: &mut P) -> Result<(), Failed>
+    ensures { Puts (sink_at P.Sink picture.old) (sink_at P.Sink picture.new) (top_by (codes "read") format) result }
+{
+    write_top("read", format, picture)
+}
+
+/// Writes what stands behind the fields of a picture of dumps.
+pub fn end_drawing<P: Sink>(
+    format: Format,
+    totals: &DumpTotals,
+    picture: &mut P,
+) -> Result<(), Failed>
+    ensures puts { Puts (sink_at P.Sink picture.old) (sink_at P.Sink picture.new) (dumps_foot (layout_of format) totals.now)
+        result }
+
+    // Behind the fields of all tracks, with lines beside them, it makes the picture whole.
+    ensures whole { OnOk result
+        ((of : TrackLinesOf) (beside_of : LinesOf) (disk : DumpDisk) (start now : ShelfNow)
+        (before top notes notes' : Option (List ℕ)) → disk.format ≡ format
+        → Appends before top (top_by (codes "read") format)
+        → HasTracksBy (dumps_part_with of) beside_of disk start now top (P.written picture.old) notes notes' totals.now
+        → DrewWithLines of beside_of disk start now before (P.written picture.new) notes notes' totals.now) }
+{
+    write_foot(Layout::of_format(format), totals, picture)
+}
+
+/// What was passed over and what else was told, the legend, and the totals.
 fn write_foot<P: Sink>(layout: Layout, totals: &DumpTotals, picture: &mut P) -> Result<(), Failed>
     ensures { Puts (sink_at P.Sink picture.old) (sink_at P.Sink picture.new) (dumps_foot layout totals.now) result }
 {

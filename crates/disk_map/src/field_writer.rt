@@ -20,14 +20,16 @@ use crate::text::write_text;
 use crate::texts::field_by;
 use dump_reading::{BesideWriter, Unsaid};
 use flux_base::{Failed, Sink, TrackId};
-use flux_engine::{Gathered, PartFault, TrackWriter, count_verdict, no_totals, sectors_of};
+use flux_engine::{
+    Gathered, NoSecond, PartFault, TrackWriter, count_verdict, no_totals, sectors_of,
+};
 use sector_images::{Format, tracks_keep_bounds};
 use sector_report::{Naming, Totals};
 use turn_merge::Book;
 
 /// What is written of a track beside its fields, to the sink of the notes: lines, or nothing. Those of a track that is
 /// none of the format's stand alone.
-pub trait LineWriter: BesideWriter {
+pub trait LineWriter: BesideWriter<NoSecond> {
     /// The lines of a track of the format, by what was gathered of it.
     ghost track_lines_of: { Self → TrackLinesOf };
 
@@ -64,14 +66,17 @@ impl LineWriter for Unsaid {
 
 /// Writes the fields of a track to the sink of the image, and lines to that of the notes.
 #[derive(Clone, Copy, Debug)]
-pub(crate) struct FieldWriter<'a, L> {
+pub struct FieldWriter<'a, L> {
     /// How their titles name the places of readings.
-    pub(crate) naming: Naming,
-    pub(crate) lines: &'a L,
+    pub naming: Naming,
+    /// Whose lines they are.
+    pub lines: &'a L,
 }
 
-impl<'a, L: LineWriter> TrackWriter for FieldWriter<'a, L> {
+impl<'a, L: LineWriter> TrackWriter<NoSecond> for FieldWriter<'a, L> {
     ghost part_of = { λ writer. drawn_with (L.track_lines_of writer.lines.now) writer.naming };
+
+    ghost second_part_of = { λ writer. drawn_with (L.track_lines_of writer.lines.now) writer.naming };
 
     fn write_track<W: Sink, N: Sink>(
         &self,
@@ -80,6 +85,7 @@ impl<'a, L: LineWriter> TrackWriter for FieldWriter<'a, L> {
         gathered: &Gathered,
         image: &mut W,
         notes: &mut N,
+        second: &mut NoSecond,
     ) -> Result<Totals, PartFault> {
         let totals = match write_fields(self.naming, format, track, &gathered.book, image) {
             Ok(totals) => totals,

@@ -16,8 +16,8 @@ mod text;
 mod texts;
 
 pub use disk::map_disk;
-pub use dumps::{draw_dumps, map_dumps};
-pub use field_writer::LineWriter;
+pub use dumps::{begin_drawing, draw_dumps, end_drawing, map_dumps};
+pub use field_writer::{FieldWriter, LineWriter};
 pub use kind::{Kind, kind_of, name_of};
 pub use laws::{
     dumps_are_drawn_as_reported, each_sector_has_its_field, fields_tell_verdicts,

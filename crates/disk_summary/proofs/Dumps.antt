@@ -14,7 +14,7 @@ use Rattle.dump_reading.specs.declared.fault.NoFiles.{NoFiles}
 use Rattle.dump_reading.specs.declared.totals.DumpTotals.{DumpTotals}
 use Rattle.disk_map.specs.Dumps.{SaysOfLined, WroteLines}
 use Rattle.disk_map.specs.Maps.{lined_by}
-use Rattle.disk_summary.specs.Dumps.{SaysOfNotedDrawing, noted_beside, noted_track}
+use Rattle.disk_summary.specs.Dumps.{DrawingsAreNoted, SaysOfNotedDrawing, noted_beside, noted_track}
 use Rattle.disk_summary.specs.Notes.{beside_notes, track_notes_of}
 use Rattle.disk_summary.specs.Texts.{note_text, notes_text}
 use Rattle.disk_summary.specs.declared.note.Note.{Note}
@@ -65,9 +65,13 @@ module _ (disk : DumpDisk) (start now : ShelfNow) (notes notes' : Option (List �
   text-of : wrote.outcome.notes ≡ notes_text noted.notes
   text-of = ap (λ (d : DumpsRead). d.notes) wrote.is.is ∙ noted.is
 
+pub noted-drew : DrawingsAreNoted
+noted-drew disk start now picture picture' notes notes' totals lined =
+    record { both = lined; noted = (noted disk start now notes notes' totals lined.wrote).notes; text = text-of disk start now notes notes' totals lined.wrote }
+
 -- what is said of lines is said of notes
 pub noted-says : (disk : DumpDisk) (start now : ShelfNow) (picture picture' notes notes' : Option (List ℕ)) (answer : Result DumpTotals (Stopped NoFiles))
     → SaysOfLined noted_track noted_beside disk start now picture picture' notes notes' answer → SaysOfNotedDrawing disk start now picture picture' notes notes' answer
 noted-says disk start now picture picture' notes notes' (Ok totals) (some, lined) =
-    (some, record { both = lined; noted = (noted disk start now notes notes' totals lined.wrote).notes; text = text-of disk start now notes notes' totals lined.wrote })
+    (some, noted-drew disk start now picture picture' notes notes' totals lined)
 noted-says disk start now picture picture' notes notes' (Err stop) says = says

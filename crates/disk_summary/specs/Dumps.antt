@@ -31,6 +31,13 @@ pub record DrewNoted (disk : DumpDisk) (start now : ShelfNow)
   pub noted : List Note
   pub text : both.wrote.outcome.notes ≡ notes_text noted
 
+-- so it is where the lines beside a picture are those of these two
+abbrev pub DrawingsAreNoted : Type 0
+DrawingsAreNoted = (disk : DumpDisk) (start now : ShelfNow)
+    (picture picture' notes notes' : Option (List ℕ)) (totals : DumpTotals)
+    → DrewWithLines noted_track noted_beside disk start now picture picture' notes notes' totals
+    → DrewNoted disk start now picture picture' notes notes' totals
+
 -- what an answer says
 abbrev pub SaysOfNotedDrawing : DumpDisk → (start now : ShelfNow)
     → (picture picture' notes notes' : Option (List ℕ)) → Result DumpTotals (Stopped NoFiles)

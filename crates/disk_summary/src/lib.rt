@@ -14,8 +14,9 @@ mod reading;
 mod summary;
 mod turn_notes;
 
-pub use laws::summaries_parse;
+pub use laws::{drawings_are_noted, summaries_parse};
 pub use note::{Note, note_piece};
+pub use note_writer::NoteWriter;
 pub use reading::draw_noted_dumps;
 pub use summary::{Summary, write_summary};
 pub use turn_notes::note_turns;

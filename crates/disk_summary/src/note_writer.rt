@@ -19,14 +19,14 @@ use crate::note::{Note, note_piece};
 use disk_map::{LineWriter, kind_of};
 use dump_reading::BesideWriter;
 use flux_base::{Failed, Sink, TrackId};
-use flux_engine::{Gathered, PassedStream, sectors_of};
+use flux_engine::{Gathered, NoSecond, PassedStream, sectors_of};
 use sector_images::{Format, tracks_keep_bounds};
 use sector_report::write_line;
 use turn_merge::{Book, OtherTold, Others, Verdict};
 
 /// Writes the notes of a track.
 #[derive(Clone, Copy, Debug)]
-pub(crate) struct NoteWriter;
+pub struct NoteWriter;
 
 impl LineWriter for NoteWriter {
     ghost track_lines_of = { λ _. noted_track };
@@ -50,14 +50,17 @@ impl LineWriter for NoteWriter {
     }
 }
 
-impl BesideWriter for NoteWriter {
+impl BesideWriter<NoSecond> for NoteWriter {
     ghost lines_of = { λ _. noted_beside };
+
+    ghost second_lines_of = { λ _. noted_beside };
 
     fn write_beside<N: Sink>(
         &self,
         track: TrackId,
         gathered: &Gathered,
         notes: &mut N,
+        second: &mut NoSecond,
     ) -> Result<(), Failed> {
         match write_passed(track, &gathered.passed, notes) {
             Ok(()) => write_others(track, &gathered.others, notes),

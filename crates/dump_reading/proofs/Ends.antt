@@ -14,6 +14,7 @@ use Rattle.flux_engine.specs.LoopProgress.{EndedBySink, EndsLoop, HasWritten, lo
 use Rattle.flux_engine.specs.PlanAnswers.{of_part}
 use Rattle.flux_engine.specs.Plans.{PartOf, Seen}
 use Rattle.flux_engine.specs.Room.{RoomState}
+use Rattle.flux_engine.specs.SecondSinks.{SecondNow}
 use Rattle.kryo_stream.specs.declared.fault.CaptureFault.{CaptureFault}
 use Rattle.flux_engine.specs.declared.fault.RefusedCapture.{RefusedCapture}
 use Rattle.flux_engine.specs.declared.fault.Stopped.{Stopped}
@@ -239,3 +240,9 @@ module _ (disk : DumpDisk) (start now : ShelfNow) (image image' notes mid notes'
         image_grew = r.image_grew;
         notes_grew = (p.0, p.1, Appends-trans notes mid notes' before (take p.0 (end_text numbers)) r.notes_grew p.2);
       }
+
+-- behind the tracks nothing more goes to the place of the image
+pub second-read : (of : PartOf) (beside_of : LinesOf) (disk : DumpDisk) (start now : ShelfNow) (old mid new : SecondNow) (totals : DumpTotals) → new.image ≡ mid.image
+    → HasTracksBy of beside_of disk start now old.image mid.image old.notes new.notes totals → HasTracksBy of beside_of disk start now old.image new.image old.notes new.notes totals
+second-read of beside_of disk start now old mid new totals same h =
+    subst (λ (image : Option (List ℕ)). HasTracksBy of beside_of disk start now old.image image old.notes new.notes totals) (sym same) h

@@ -3,6 +3,7 @@
 use Rattle.std.specs.Prelude.{◌≡◌, ◌<◌, ◌≤◌, ◌&&◌, ℕ, zero, suc, ◌+◌, ◌-◌, ◌*◌, Bool, true, not}
 use Rattle.std.specs.Prelude.{filter, flat_map, get_or, length, List, [], ◌∷◌, ◌++◌, min, nat_lt}
 use Rattle.std.specs.Prelude.{sum_by, Option}
+use Rattle.std.specs.Io.KnownBytes.{Appends}
 use Rattle.std.specs.List.{range_with_len}
 use Rattle.flux_base.specs.declared.track.TrackId.{TrackId}
 use Rattle.sector_images.specs.Formats.{row}
@@ -15,6 +16,7 @@ use Rattle.turn_merge.specs.Others.{NotedOther, has_untold, others_over}
 use Rattle.flux_engine.specs.LoopProgress.{seen_at}
 use Rattle.flux_engine.specs.Names.{passed_beside}
 use Rattle.flux_engine.specs.Plans.{AreNamesTo, Seen}
+use Rattle.flux_engine.specs.SecondSinks.{SecondNow}
 use Rattle.flux_engine.specs.declared.gathered_track.PassedStream.{PassedStream}
 use Rattle.flux_engine.specs.declared.plan.Plan.{Plan}
 use Rattle.dump_reading.specs.DumpStreams.{AreOfDumps, DumpTracks}
@@ -93,6 +95,12 @@ beside_lines track passed others =
 
 abbrev pub no_lines : LinesOf
 no_lines track passed others = []
+
+-- such lines were taken by the second of two sinks, as long as both take all
+abbrev pub TookLines : List ℕ → (start now : SecondNow) → Type 0
+TookLines text start now =
+    now.sound ≡ true
+    → (start.sound ≡ true) × (now.image ≡ start.image) × Appends start.notes now.notes text
 
 -- The first of these tracks were looked at: what came of their files, and all headers in each.
 pub record AreBeside (stepping : Stepping) (dumps : List (List ℕ)) (plan : Plan) (format : Format)

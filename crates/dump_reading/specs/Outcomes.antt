@@ -19,6 +19,7 @@ use Rattle.flux_engine.specs.Cut.{CutBySink}
 use Rattle.flux_engine.specs.Disks.{images, lines, totals_over}
 use Rattle.flux_engine.specs.LoopProgress.{lost_count, passed_count, streams_over}
 use Rattle.flux_engine.specs.Plans.{ArePlannedParts, PartOf, Seen}
+use Rattle.flux_engine.specs.SecondSinks.{SecondNow}
 use Rattle.flux_engine.specs.Tracks.{TrackPart}
 use Rattle.flux_engine.specs.declared.plan.Clocks.{Clocks}
 use Rattle.flux_engine.specs.declared.plan.Clocks.TheVariants.{Both}
@@ -198,6 +199,14 @@ pub record HasTracksBy (of : PartOf) (beside_of : LinesOf) (disk : DumpDisk) (st
   pub image_grew : Appends image image' (images parts)
   pub notes_grew : Appends notes notes' (lines parts ++ lines_of beside_of beside)
   pub totals_are : totals ≡ numbers_of streams parts others beside.came beside.others
+
+-- the same of two sinks as long as they take all
+abbrev pub HasTracksSecond : PartOf → LinesOf → DumpDisk → (start now : ShelfNow)
+    → (second second' : SecondNow) → DumpTotals → Type 0
+HasTracksSecond of beside_of disk start now second second' totals =
+    second'.sound ≡ true
+    → HasTracksBy of beside_of disk start now second.image second'.image second.notes second'.notes
+    totals
 
 -- all of it was written
 pub record WroteDumps (disk : DumpDisk) (start now : ShelfNow)

@@ -13,11 +13,12 @@ ghost use Rattle.flux_engine.specs.Recordings.{track_at};
 ghost use Rattle.sector_images.specs.Formats.{row};
 ghost use Rattle.sector_images.specs.Places.{IsTrack, tracks};
 ghost use Rattle.turn_merge.specs.Others.{NotedOther, OthersStandFor};
-ghost use Rattle.dump_reading.specs.Beside.{LinesOf, beside_lines, is_track, most_cylinders, near_track, no_lines};
+ghost use Rattle.dump_reading.specs.Beside.{LinesOf, TookLines, beside_lines, is_track, most_cylinders, near_track, no_lines};
 ghost use Rattle.dump_reading.specs.Beside.{of_tracks};
 ghost use Rattle.dump_reading.specs.DumpStreams.{HaveComeOf};
 ghost use Rattle.dump_reading.specs.Files.{ShelfNow, shelf_at};
-ghost use Rattle.dump_reading.specs.inside.Looks.{HasTakenTo, LooksAsAsked, LooksAtOne, LooksInto};
+ghost use Rattle.dump_reading.specs.inside.Looks.{HasTakenTo, LooksAsAsked, LooksAsAskedSecond, LooksAtOne};
+ghost use Rattle.dump_reading.specs.inside.Looks.{LooksAtOneSecond, LooksInto};
 ghost use Rattle.dump_reading.specs.Outcomes.{disk_by};
 ghost use Rattle.dump_reading.specs.Reports.{plan_by};
 
@@ -26,42 +27,54 @@ use crate::looks::Looks;
 use crate::report::{write_others, write_passed};
 use flux_base::{Failed, Sink, TrackId};
 use flux_engine::{
-    Clocks, DiskRoom, Gathered, count_names, room_format, room_gathered, start_track, take_names,
+    Clocks, DiskRoom, Gathered, NoSecond, SecondSinks, count_names, room_format, room_gathered,
+    start_track, take_names,
 };
 use sector_images::{Format, track_count, track_id, tracks_keep_bounds};
 use sector_report::Totals;
 use track_shelf::{Shelf, Stepping};
 
-/// What becomes of such a track: lines, or nothing.
-pub trait BesideWriter {
+/// What becomes of such a track: lines, or nothing; and lines for the second sinks.
+pub trait BesideWriter<D: SecondSinks> {
     /// Its lines, by the captures that are passed over and by all others.
     ghost lines_of: { Self → LinesOf };
 
-    /// Writes them, each in one piece.
+    /// The same for the notes of the second sinks.
+    ghost second_lines_of: { Self → LinesOf };
+
+    /// Writes them, each in one piece. A fault of a second sink ends nothing.
     fn write_beside<N: Sink>(
         &self,
         track: TrackId,
         gathered: &Gathered,
         notes: &mut N,
+        second: &mut D,
     ) -> Result<(), Failed>
         requires { track.cylinder < 100 }
-        ensures { (others : List NotedOther) → OthersStandFor gathered.now.others others
+        ensures wrote { (others : List NotedOther) → OthersStandFor gathered.now.others others
             → Puts (sink_at N.Sink notes.old) (sink_at N.Sink notes.new)
-            (lines_of self.now track gathered.now.passed.items others) result };
+            (lines_of self.now track gathered.now.passed.items others) result }
+        ensures second { OnOk result
+            ((others : List NotedOther) → OthersStandFor gathered.now.others others
+            → TookLines (second_lines_of self.now track gathered.now.passed.items others) (D.now second.old)
+            (D.now second.new)) };
 }
 
 /// The lines of the report.
 #[derive(Clone, Copy, Debug)]
-pub(crate) struct BesideReport;
+pub struct BesideReport;
 
-impl BesideWriter for BesideReport {
+impl BesideWriter<NoSecond> for BesideReport {
     ghost lines_of = { λ _. beside_lines };
+
+    ghost second_lines_of = { λ _. beside_lines };
 
     fn write_beside<N: Sink>(
         &self,
         track: TrackId,
         gathered: &Gathered,
         notes: &mut N,
+        second: &mut NoSecond,
     ) -> Result<(), Failed> {
         match write_passed(track, &gathered.passed, notes) {
             Ok(()) => write_others(track, &gathered.others, notes),
@@ -74,14 +87,17 @@ impl BesideWriter for BesideReport {
 #[derive(Clone, Copy, Debug)]
 pub struct Unsaid;
 
-impl BesideWriter for Unsaid {
+impl BesideWriter<NoSecond> for Unsaid {
     ghost lines_of = { λ _. no_lines };
+
+    ghost second_lines_of = { λ _. no_lines };
 
     fn write_beside<N: Sink>(
         &self,
         track: TrackId,
         gathered: &Gathered,
         notes: &mut N,
+        second: &mut NoSecond,
     ) -> Result<(), Failed> {
         Ok(())
     }
@@ -91,7 +107,7 @@ impl BesideWriter for Unsaid {
 /// that is asked for by what the format's tracks came to. What was counted of these is counted on. The room's
 /// tracks are done with: it is used again for each of those beside, which is read with the ring and the cell
 /// of the format's nearest track.
-pub(crate) fn read_beside<B: BesideWriter, H: Shelf, N: Sink>(
+pub(crate) fn read_beside<B: BesideWriter<D>, D: SecondSinks, H: Shelf, N: Sink>(
     clocks: Clocks,
     looks: Looks,
     sectors: &Totals,
@@ -100,6 +116,7 @@ pub(crate) fn read_beside<B: BesideWriter, H: Shelf, N: Sink>(
     room: &mut DiskRoom,
     shelf: &mut H,
     notes: &mut N,
+    second: &mut D,
 ) -> Result<(), Failed>
     requires few { length dumps.now.names.now ≤ 16 }
     requires below { AreCountsBelow room.old (length (tracks room.old.format)) }
@@ -107,6 +124,10 @@ pub(crate) fn read_beside<B: BesideWriter, H: Shelf, N: Sink>(
         (LooksAsAsked (B.lines_of writer.now) (disk_by clocks looks dumps.now room.old.format) sectors.now
         (shelf_at H.Source H.Shelf.own shelf.old) (shelf_at H.Source H.Shelf.own shelf.new) room.old room.new
         (N.written notes.old) (N.written notes.new)) }
+    ensures second { OnOk result
+        (LooksAsAskedSecond (B.second_lines_of writer.now) (disk_by clocks looks dumps.now room.old.format) sectors.now
+        (shelf_at H.Source H.Shelf.own shelf.old) (shelf_at H.Source H.Shelf.own shelf.new) room.old room.new
+        (D.now second.old) (D.now second.new)) }
     ensures err { OnErr result
         (LooksInto (B.lines_of writer.now) (disk_by clocks looks dumps.now room.old.format) sectors.now
         (shelf_at H.Source H.Shelf.own shelf.old) (shelf_at H.Source H.Shelf.own shelf.new) (N.written notes.old)
@@ -123,7 +144,7 @@ pub(crate) fn read_beside<B: BesideWriter, H: Shelf, N: Sink>(
             head: number % 2,
         };
         if number_of(room_format(room), track).is_none() {
-            match read_one(clocks, dumps, writer, track, room, shelf, notes) {
+            match read_one(clocks, dumps, writer, track, room, shelf, notes, second) {
                 Ok(()) => {}
                 Err(failed) => return Err(failed),
             }
@@ -133,7 +154,7 @@ pub(crate) fn read_beside<B: BesideWriter, H: Shelf, N: Sink>(
 }
 
 /// Looks at the files of one such track.
-fn read_one<B: BesideWriter, H: Shelf, N: Sink>(
+fn read_one<B: BesideWriter<D>, D: SecondSinks, H: Shelf, N: Sink>(
     clocks: Clocks,
     dumps: &Dumps,
     writer: &B,
@@ -141,6 +162,7 @@ fn read_one<B: BesideWriter, H: Shelf, N: Sink>(
     room: &mut DiskRoom,
     shelf: &mut H,
     notes: &mut N,
+    second: &mut D,
 ) -> Result<(), Failed>
     requires cylinder { track.cylinder < 100 }
     requires few { length dumps.now.names.now ≤ 16 }
@@ -152,13 +174,21 @@ fn read_one<B: BesideWriter, H: Shelf, N: Sink>(
         → LooksAtOne (B.lines_of writer.now) (plan_by clocks (length dumps.now.names.now)) track
         (of_tracks dumps.now.stepping dumps.now.names.now track_of) start (shelf_at H.Source H.Shelf.own shelf.new)
         before room.old room.new (sink_at N.Sink notes.old) (sink_at N.Sink notes.new) result }
+    ensures second { (track_of : ℕ → Id) (number : ℕ) (start : ShelfNow) (before : List Seen) → track_of number ≡ track
+        → length before ≡ number * length dumps.now.names.now
+        → HaveComeOf (of_tracks dumps.now.stepping dumps.now.names.now track_of) start
+        (shelf_at H.Source H.Shelf.own shelf.old) before
+        → OnOk result
+        (LooksAtOneSecond (B.second_lines_of writer.now) (plan_by clocks (length dumps.now.names.now)) track
+        (of_tracks dumps.now.stepping dumps.now.names.now track_of) start (shelf_at H.Source H.Shelf.own shelf.new)
+        before room.old room.new (D.now second.old) (D.now second.new)) }
     ensures format { room.new.format ≡ room.old.format }
     ensures below { (n : ℕ) → AreCountsBelow room.old n → AreCountsBelow room.new (n + 1) }
 {
     start_track(room, near_number(room_format(room), track));
     take_all(clocks, dumps, track, room, shelf);
     count_names(room);
-    writer.write_beside(track, room_gathered(room), notes)
+    writer.write_beside(track, room_gathered(room), notes, second)
 }
 
 /// Takes the files of all dumps of such a track, of which nothing was gathered yet.

@@ -12,11 +12,11 @@ mod reading;
 mod report;
 mod totals;
 
-pub use beside::{BesideWriter, Unsaid, has_track, most_cylinders, near_track};
+pub use beside::{BesideReport, BesideWriter, Unsaid, has_track, most_cylinders, near_track};
 pub use dumps::Dumps;
 pub use fault::NoFiles;
 pub use looking::find_empty;
 pub use looks::Looks;
-pub use reading::{read_dump_tracks, read_dumps, read_dumps_by};
-pub use report::write_passed;
+pub use reading::{end_report, read_dump_tracks, read_dumps, read_dumps_by};
+pub use report::{DumpReport, write_passed};
 pub use totals::DumpTotals;

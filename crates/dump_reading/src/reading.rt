@@ -1,14 +1,16 @@
 //! A disk that is read of its dumps.
 
-ghost use Rattle.std.specs.Prelude.{◌≡◌, ◌≤◌, length, IfErr, IfOk};
+ghost use Rattle.std.specs.Prelude.{◌≡◌, ◌≤◌, ℕ, List, Option, length, IfErr, IfOk, OnOk};
 ghost use Rattle.flux_base.specs.Blames.{CountsBy};
 ghost use Rattle.flux_base.specs.Moments.{Puts};
 ghost use Rattle.flux_base.specs.World.{sink_at, sinks_counts};
 ghost use Rattle.flux_engine.specs.Room.{fresh};
 ghost use Rattle.flux_engine.specs.Blamed.{sink_blame};
-ghost use Rattle.dump_reading.specs.Files.{shelf_at};
-ghost use Rattle.dump_reading.specs.Outcomes.{HasTracksBy, SaysOfDumps, StopsBy, disk_by, disk_of};
-ghost use Rattle.dump_reading.specs.Reports.{end_text};
+ghost use Rattle.dump_reading.specs.Beside.{beside_lines};
+ghost use Rattle.dump_reading.specs.Files.{ShelfNow, shelf_at};
+ghost use Rattle.dump_reading.specs.Outcomes.{DumpDisk, HasTracksBy, HasTracksSecond, SaysOfDumps, StopsBy};
+ghost use Rattle.dump_reading.specs.Outcomes.{WroteDumps, disk_by, disk_of};
+ghost use Rattle.dump_reading.specs.Reports.{end_text, read_part};
 
 use crate::beside::{BesideReport, BesideWriter, read_beside};
 use crate::dumps::Dumps;
@@ -19,7 +21,8 @@ use crate::report::{DumpReport, NAMING};
 use crate::totals::DumpTotals;
 use flux_base::{Failed, Sink};
 use flux_engine::{
-    Clocks, DiskRoom, Plan, Rule, Stopped, TrackWriter, decode_tracks, no_totals, room_format,
+    Clocks, DiskRoom, NoSecond, Plan, Rule, SecondSinks, Stopped, TrackWriter, decode_tracks,
+    no_totals, room_format,
 };
 use sector_report::{total_line, unread_line, write_line};
 use track_shelf::Shelf;
@@ -87,6 +90,7 @@ pub fn read_dumps_by<H: Shelf, W: Sink, N: Sink>(
         None => {}
         Some(dump) => return Err(Stopped::Refused(NoFiles { dump })),
     }
+    let mut none = NoSecond;
     let read = read_dump_tracks(
         clocks,
         looks,
@@ -97,12 +101,13 @@ pub fn read_dumps_by<H: Shelf, W: Sink, N: Sink>(
         shelf,
         image,
         notes,
+        &mut none,
     );
     let totals = match read {
         Ok(totals) => totals,
         Err(fault) => return Err(fault),
     };
-    match write_end(&totals, notes) {
+    match end_report(&totals, notes) {
         Ok(()) => Ok(totals),
         Err(Failed) => Err(Stopped::NotesFault),
     }
@@ -110,8 +115,16 @@ pub fn read_dumps_by<H: Shelf, W: Sink, N: Sink>(
 
 /// Reads all tracks of a disk of its dumps, and those beside them where that is asked for, as `read_dumps_by` does, and
 /// gives what was gathered of each to a writer. That dumps have files is not looked at here, so `Refused` does not
-/// come. After a fault nothing more is read or written, and the tracks before are written whole.
-pub fn read_dump_tracks<O: TrackWriter, B: BesideWriter, H: Shelf, W: Sink, N: Sink>(
+/// come. What the writers' second sinks took is known where they took all that they were given. After a fault nothing
+/// more is read or written, and the tracks before are written whole.
+pub fn read_dump_tracks<
+    O: TrackWriter<D>,
+    B: BesideWriter<D>,
+    D: SecondSinks,
+    H: Shelf,
+    W: Sink,
+    N: Sink,
+>(
     clocks: Clocks,
     looks: Looks,
     dumps: &Dumps,
@@ -121,6 +134,7 @@ pub fn read_dump_tracks<O: TrackWriter, B: BesideWriter, H: Shelf, W: Sink, N: S
     shelf: &mut H,
     image: &mut W,
     notes: &mut N,
+    second: &mut D,
 ) -> Result<DumpTotals, Stopped<NoFiles>>
     requires fresh { room.old ≡ fresh room.old.format }
     requires few { length dumps.now.names.now ≤ 16 }
@@ -128,6 +142,10 @@ pub fn read_dump_tracks<O: TrackWriter, B: BesideWriter, H: Shelf, W: Sink, N: S
         (HasTracksBy (O.part_of writer.now) (B.lines_of beside.now) (disk_by clocks looks dumps.now room.old.format)
         (shelf_at H.Source H.Shelf.own shelf.old) (shelf_at H.Source H.Shelf.own shelf.new) (W.written image.old)
         (W.written image.new) (N.written notes.old) (N.written notes.new)) }
+    ensures second { IfOk result
+        (HasTracksSecond (O.second_part_of writer.now) (B.second_lines_of beside.now)
+        (disk_by clocks looks dumps.now room.old.format) (shelf_at H.Source H.Shelf.own shelf.old)
+        (shelf_at H.Source H.Shelf.own shelf.new) (D.now second.old) (D.now second.new)) }
     ensures err { IfErr result
         (StopsBy (O.part_of writer.now) (B.lines_of beside.now) (disk_by clocks looks dumps.now room.old.format)
         (shelf_at H.Source H.Shelf.own shelf.old) (shelf_at H.Source H.Shelf.own shelf.new) (W.written image.old)
@@ -145,14 +163,26 @@ pub fn read_dump_tracks<O: TrackWriter, B: BesideWriter, H: Shelf, W: Sink, N: S
         naming: NAMING,
     };
     let mut sectors = no_totals();
-    match decode_tracks(plan, dumps, writer, room, shelf, image, notes, &mut sectors) {
+    match decode_tracks(
+        plan,
+        dumps,
+        writer,
+        room,
+        shelf,
+        image,
+        notes,
+        second,
+        &mut sectors,
+    ) {
         Ok(()) => {}
         Err(Stopped::ImageFault) => return Err(Stopped::ImageFault),
         Err(Stopped::NotesFault) => return Err(Stopped::NotesFault),
         // No stream ends a disk of dumps.
         Err(Stopped::ReadFault | Stopped::Refused(_)) => unreachable!(),
     }
-    match read_beside(clocks, looks, &sectors, dumps, beside, room, shelf, notes) {
+    match read_beside(
+        clocks, looks, &sectors, dumps, beside, room, shelf, notes, second,
+    ) {
         Ok(()) => Ok(DumpTotals {
             sectors,
             unread: room.unread(),
@@ -164,9 +194,15 @@ pub fn read_dump_tracks<O: TrackWriter, B: BesideWriter, H: Shelf, W: Sink, N: S
     }
 }
 
-/// Writes the last two lines: what was passed over and what else was told, and the totals.
-fn write_end<N: Sink>(totals: &DumpTotals, notes: &mut N) -> Result<(), Failed>
-    ensures { Puts (sink_at N.Sink notes.old) (sink_at N.Sink notes.new) (end_text totals.now) result }
+/// Writes the last two lines of a report: what was passed over and what else was told, and the totals.
+pub fn end_report<N: Sink>(totals: &DumpTotals, notes: &mut N) -> Result<(), Failed>
+    ensures puts { Puts (sink_at N.Sink notes.old) (sink_at N.Sink notes.new) (end_text totals.now) result }
+
+    // Behind the lines of all tracks they make the report whole.
+    ensures whole { OnOk result
+        ((disk : DumpDisk) (start now : ShelfNow) (image image' notes_before : Option (List ℕ))
+        → HasTracksBy read_part beside_lines disk start now image image' notes_before (N.written notes.old) totals.now
+        → WroteDumps disk start now image image' notes_before (N.written notes.new) totals.now) }
 {
     match write_line(
         notes,

@@ -8,7 +8,7 @@ ghost use Rattle.dump_reading.specs.Reports.{trace_count as traces_in};
 
 use flux_base::{Failed, Sink, TrackId};
 use flux_engine::{
-    Gathered, PartFault, PassedStream, TrackWriter, sectors_of, write_image, write_lines,
+    Gathered, NoSecond, PartFault, PassedStream, TrackWriter, sectors_of, write_image, write_lines,
 };
 use sector_images::{Format, tracks_keep_bounds};
 use sector_report::{
@@ -23,10 +23,12 @@ pub(crate) const NAMING: Naming = Naming::ByCaptureAndClock;
 /// for each of its sectors, one for each name of other headers that is told and has whole data, one where such data
 /// follow a name that is not told, and one that tells how many of the names that are told have none.
 #[derive(Clone, Copy, Debug)]
-pub(crate) struct DumpReport;
+pub struct DumpReport;
 
-impl TrackWriter for DumpReport {
+impl TrackWriter<NoSecond> for DumpReport {
     ghost part_of = { λ _. read_part };
+
+    ghost second_part_of = { λ _. read_part };
 
     fn write_track<W: Sink, N: Sink>(
         &self,
@@ -35,6 +37,7 @@ impl TrackWriter for DumpReport {
         gathered: &Gathered,
         image: &mut W,
         notes: &mut N,
+        second: &mut NoSecond,
     ) -> Result<Totals, PartFault> {
         tracks_keep_bounds();
         match write_image(format, track, &gathered.book, image) {

@@ -28,3 +28,4 @@ pub mod lemmas
 pub mod Names
 pub mod Tallies
 pub mod SharedCells
+pub mod SecondSinks

@@ -17,6 +17,7 @@ ghost use Rattle.flux_engine.specs.Reading.{IsBounded};
 ghost use Rattle.flux_engine.specs.Recordings.{cells_by, start_by as start_of_clock, start_of, track_at};
 ghost use Rattle.flux_engine.specs.Recordings.{sectors_of as sectors_in};
 ghost use Rattle.flux_engine.specs.Room.{IsBookOf, IsRoomy, MOST_CELLS, MOST_READINGS, MOST_SOURCES};
+ghost use Rattle.flux_engine.specs.SecondSinks.{WritesSecond};
 ghost use Rattle.flux_engine.specs.TrackParts.{WritesPart};
 ghost use Rattle.flux_engine.specs.Tracks.{track_notes};
 ghost use Rattle.flux_engine.specs.Writing.{IsSum, Knows};
@@ -33,6 +34,7 @@ use crate::gathered_track::Gathered;
 use crate::gathering::{gather, gather_as_controller};
 use crate::plan::{Clocks, Rule};
 use crate::room::{DiskRoom, Tools};
+use crate::second_sinks::SecondSinks;
 use crate::track_part::PartFault;
 use crate::track_writer::TrackWriter;
 use cell_bits::Cells;
@@ -182,11 +184,12 @@ pub fn bytes(room: &DiskRoom, sector: u8) -> Option<&[u8]>
 }
 
 /// Writes what the gathered readings of the started track come to.
-pub(crate) fn write_started<O: TrackWriter, W: Sink, N: Sink>(
+pub(crate) fn write_started<O: TrackWriter<D>, D: SecondSinks, W: Sink, N: Sink>(
     writer: &O,
     room: &DiskRoom,
     image: &mut W,
     notes: &mut N,
+    second: &mut D,
 ) -> Result<Totals, PartFault>
     ensures wrote { (readings : List NotedReading) (others : List NotedOther) → StandsFor room.now.book readings
         → OthersStandFor room.now.others others
@@ -194,6 +197,11 @@ pub(crate) fn write_started<O: TrackWriter, W: Sink, N: Sink>(
         (O.part_of writer.now room.now.format (track_at room.now.format room.now.started)
         (track_notes readings room.now.passed others)) (W.written image.old) (W.written image.new)
         (N.written notes.old) (N.written notes.new) result }
+    ensures second { (readings : List NotedReading) (others : List NotedOther) → StandsFor room.now.book readings
+        → OthersStandFor room.now.others others
+        → WritesSecond
+        (O.second_part_of writer.now room.now.format (track_at room.now.format room.now.started)
+        (track_notes readings room.now.passed others)) (D.now second.old) (D.now second.new) result }
     ensures sum { IfOk result IsSum }
     ensures few { IfOk result (λ totals. totals.sectors ≤ 100) }
     ensures blames { CountsBy (part_blame result)
@@ -202,7 +210,14 @@ pub(crate) fn write_started<O: TrackWriter, W: Sink, N: Sink>(
 {
     tracks_keep_bounds();
     let track = track_id(room.format, room.started);
-    writer.write_track(room.format, track, &room.tools.gathered, image, notes)
+    writer.write_track(
+        room.format,
+        track,
+        &room.tools.gathered,
+        image,
+        notes,
+        second,
+    )
 }
 
 /// Reads the next stream.

@@ -14,6 +14,7 @@ ghost use Rattle.flux_engine.specs.PlanAnswers.{of_part as of_part_fault};
 ghost use Rattle.flux_engine.specs.PlanProgress.{EndsInTracks, HasPlanned};
 ghost use Rattle.flux_engine.specs.Plans.{EndsInPlan};
 ghost use Rattle.flux_engine.specs.Room.{fresh};
+ghost use Rattle.flux_engine.specs.SecondSinks.{HasWrittenSecond};
 ghost use Rattle.flux_engine.specs.Tracks.{part_by};
 ghost use Rattle.kryo_stream.specs.Reads.{reads_at};
 ghost use Rattle.sector_images.specs.Places.{tracks};
@@ -22,6 +23,7 @@ use crate::capture::write_started;
 use crate::fault::{RefusedCapture, Stopped};
 use crate::plan::Plan;
 use crate::room::DiskRoom;
+use crate::second_sinks::{NoSecond, SecondSinks};
 use crate::track_captures::read_captures;
 use crate::track_part::PartFault;
 use crate::track_streams::{OneAfterAnother, TrackStreams};
@@ -85,7 +87,7 @@ pub fn decode_planned<S: Source, W: Sink, N: Sink>(
 /// comes to, and adds up the totals of those that were written whole. No answer is for want of memory.
 ///
 /// After a fault nothing more is read or written. `Refused` names the first stream with a fault.
-pub fn decode_planned_tracks<O: TrackWriter, S: Source, W: Sink, N: Sink>(
+pub fn decode_planned_tracks<O: TrackWriter<NoSecond>, S: Source, W: Sink, N: Sink>(
     plan: Plan,
     writer: &O,
     room: &mut DiskRoom,
@@ -113,6 +115,7 @@ pub fn decode_planned_tracks<O: TrackWriter, S: Source, W: Sink, N: Sink>(
 {
     growth_law();
     padding_law();
+    let mut none = NoSecond;
     decode_tracks(
         plan,
         &OneAfterAnother,
@@ -121,15 +124,17 @@ pub fn decode_planned_tracks<O: TrackWriter, S: Source, W: Sink, N: Sink>(
         source,
         image,
         notes,
+        &mut none,
         totals,
     )
 }
 
 /// Decodes all tracks of a disk in order by a plan, wherever its streams come from, writes what each comes to, and adds
-/// up the totals of those that were written whole. No answer is for want of memory.
+/// up the totals of those that were written whole. What the writer's second sinks took is known where they took all that
+/// they were given. No answer is for want of memory.
 ///
 /// After a fault nothing more is read or written. `Refused` names the stream that ended the disk.
-pub fn decode_tracks<T: TrackStreams<S>, O: TrackWriter, S, W: Sink, N: Sink>(
+pub fn decode_tracks<T: TrackStreams<S>, O: TrackWriter<D>, D: SecondSinks, S, W: Sink, N: Sink>(
     plan: Plan,
     streams: &T,
     writer: &O,
@@ -137,6 +142,7 @@ pub fn decode_tracks<T: TrackStreams<S>, O: TrackWriter, S, W: Sink, N: Sink>(
     source: &mut S,
     image: &mut W,
     notes: &mut N,
+    second: &mut D,
     totals: &mut Totals,
 ) -> Result<(), Stopped<RefusedCapture>>
     requires none { totals.old ≡ no_totals }
@@ -146,6 +152,10 @@ pub fn decode_tracks<T: TrackStreams<S>, O: TrackWriter, S, W: Sink, N: Sink>(
         (HasWritten plan (O.part_of writer.now) room.old.format
         (T.came streams.now plan room.old.format source.old source.new) (W.written image.old) (W.written image.new)
         (N.written notes.old) (N.written notes.new) room.new (length (tracks room.old.format)) totals.new) }
+    ensures second { OnOk result
+        (HasWrittenSecond plan (O.second_part_of writer.now) room.old.format
+        (T.came streams.now plan room.old.format source.old source.new) (D.now second.old) (D.now second.new) room.new
+        (length (tracks room.old.format)) totals.new) }
     ensures err { IfErr result
         (EndsLoop plan (O.part_of writer.now) room.old.format
         (T.came streams.now plan room.old.format source.old source.new)
@@ -167,7 +177,7 @@ pub fn decode_tracks<T: TrackStreams<S>, O: TrackWriter, S, W: Sink, N: Sink>(
             Ok(()) => {}
             Err(fault) => return Err(fault),
         }
-        match write_started(writer, room, image, notes) {
+        match write_started(writer, room, image, notes, second) {
             Ok(more) => add_totals(totals, more),
             Err(fault) => return Err(of_part(fault)),
         }

@@ -10,23 +10,29 @@ ghost use Rattle.turn_merge.specs.Readings.{NotedReading};
 ghost use Rattle.flux_engine.specs.Blamed.{part_blame};
 ghost use Rattle.flux_engine.specs.Plans.{PartOf};
 ghost use Rattle.flux_engine.specs.Recordings.{sectors_of as sectors_in};
+ghost use Rattle.flux_engine.specs.SecondSinks.{WritesSecond};
 ghost use Rattle.flux_engine.specs.TrackParts.{WritesPart};
 ghost use Rattle.flux_engine.specs.Tracks.{part_by, track_notes};
 ghost use Rattle.flux_engine.specs.Writing.{IsSum, Knows};
 
 use crate::gathered_track::Gathered;
+use crate::second_sinks::{NoSecond, SecondSinks};
 use crate::track_part::{PartFault, write_part};
 use flux_base::{Sink, TrackId};
 use sector_images::Format;
 use sector_report::{Naming, Totals};
 
 /// What becomes of a track's verdicts, of its streams that were passed over and of other headers: bytes for
-/// two sinks, `image` and `notes`.
-pub trait TrackWriter {
+/// two sinks, `image` and `notes`, and bytes for a second pair, if it has one.
+pub trait TrackWriter<D: SecondSinks> {
     /// What a track comes to by what was gathered of it: the bytes for either sink, and the track's totals.
     ghost part_of: { Self → PartOf };
 
-    /// Writes what a track comes to, first to `image` and then to `notes`, and gives its totals.
+    /// The same for the second sinks.
+    ghost second_part_of: { Self → PartOf };
+
+    /// Writes what a track comes to, first to `image` and then to `notes`, and then to the second sinks, whose faults
+    /// end nothing. Gives its totals.
     fn write_track<W: Sink, N: Sink>(
         &self,
         format: Format,
@@ -34,6 +40,7 @@ pub trait TrackWriter {
         gathered: &Gathered,
         image: &mut W,
         notes: &mut N,
+        second: &mut D,
     ) -> Result<Totals, PartFault>
         requires track { IsTrack format track }
         requires known { Knows (sectors_in format track) gathered.now.book }
@@ -41,6 +48,11 @@ pub trait TrackWriter {
             → OthersStandFor gathered.now.others others
             → WritesPart (part_of self.now format track (track_notes readings gathered.now.passed.items others))
             (W.written image.old) (W.written image.new) (N.written notes.old) (N.written notes.new) result }
+        ensures second { (readings : List NotedReading) (others : List NotedOther) → StandsFor gathered.now.book readings
+            → OthersStandFor gathered.now.others others
+            → WritesSecond
+            (second_part_of self.now format track (track_notes readings gathered.now.passed.items others))
+            (D.now second.old) (D.now second.new) result }
         ensures sum { IfOk result IsSum }
         ensures few { IfOk result (λ totals. totals.sectors ≤ 100) }
         ensures blames { CountsBy (part_blame result)
@@ -56,8 +68,10 @@ pub struct ImageAndReport {
     pub naming: Naming,
 }
 
-impl TrackWriter for ImageAndReport {
+impl TrackWriter<NoSecond> for ImageAndReport {
     ghost part_of = { λ writer. part_by writer.naming };
+
+    ghost second_part_of = { λ writer. part_by writer.naming };
 
     fn write_track<W: Sink, N: Sink>(
         &self,
@@ -66,6 +80,7 @@ impl TrackWriter for ImageAndReport {
         gathered: &Gathered,
         image: &mut W,
         notes: &mut N,
+        second: &mut NoSecond,
     ) -> Result<Totals, PartFault> {
         write_part(self.naming, format, track, &gathered.book, image, notes)
     }

@@ -1,7 +1,8 @@
 -- What looking at the tracks beside the format's comes to: of one of them, and of all.
 use Rattle.std.specs.Prelude.{◌≡◌, ◌<◌, ℕ, ◌+◌, ◌-◌, true, List, [], ◌∷◌, ◌++◌, length, Option}
-use Rattle.std.specs.Prelude.{Result}
+use Rattle.std.specs.Prelude.{Result, Ok}
 use Rattle.std.specs.Io.KnownBytes.{Appends}
+use Rattle.flux_base.specs.Blames.{no_counts}
 use Rattle.flux_base.specs.Moments.{Moment, Puts}
 use Rattle.flux_base.specs.declared.outside.Failed.{Failed}
 use Rattle.flux_base.specs.declared.track.TrackId.{TrackId}
@@ -12,6 +13,7 @@ use Rattle.flux_engine.specs.Counts.{lost_in, told_count, whole_count}
 use Rattle.flux_engine.specs.LoopProgress.{lost_count, seen_at}
 use Rattle.flux_engine.specs.Plans.{AreNamesTo, Seen}
 use Rattle.flux_engine.specs.Room.{RoomState}
+use Rattle.flux_engine.specs.SecondSinks.{SecondNow}
 use Rattle.flux_engine.specs.declared.plan.Plan.{Plan}
 use Rattle.dump_reading.specs.Beside.{LinesOf, beside_to, lines_at, lines_to, looks_beside}
 use Rattle.dump_reading.specs.Beside.{near_track, of_beside, told_beside}
@@ -41,6 +43,10 @@ pub record HasTakenTo (plan : Plan) (near : TrackId) (tracks : DumpTracks) (star
   pub passed_many : length room.passed ≡ told_beside more
   pub lost_many : lost_in room.passed ≡ lost_count more
 
+-- a sink of which the bytes alone are looked at
+abbrev pub untold : Option (List ℕ) → Moment (Unit {0})
+untold bytes = record { object = tt; bytes = bytes; counts = no_counts }
+
 -- After the streams before, those of one of these tracks came, they are counted, and its lines
 -- were written, or a part of them.
 pub record LooksAtOne {A : Type 0} (of : LinesOf) (plan : Plan) (track : TrackId)
@@ -69,6 +75,23 @@ pub record LooksAsAsked (of : LinesOf) (disk : DumpDisk) (sectors : Totals) (sta
     (old new : RoomState) (notes notes' : Option (List ℕ)) : Type 0 where
   pub has : HasLooked of disk start now old new notes notes'
   pub looked : LookedAsAsked sectors has.beside
+
+-- One of them, as the second of two sinks took its lines, as long as both take all.
+abbrev pub LooksAtOneSecond : LinesOf → Plan → TrackId → DumpTracks → (start now : ShelfNow) → List Seen
+    → (old new : RoomState) → (second second' : SecondNow) → Type 0
+LooksAtOneSecond of plan track tracks start now before old new second second' =
+    second'.sound ≡ true
+    → (second.sound ≡ true) × (second'.image ≡ second.image)
+    × LooksAtOne of plan track tracks start now before old new (untold second.notes)
+    (untold second'.notes) (Ok tt)
+
+-- all, where that is asked for, or none
+abbrev pub LooksAsAskedSecond : LinesOf → DumpDisk → Totals → (start now : ShelfNow)
+    → (old new : RoomState) → (second second' : SecondNow) → Type 0
+LooksAsAskedSecond of disk sectors start now old new second second' =
+    second'.sound ≡ true
+    → (second.sound ≡ true) × (second'.image ≡ second.image)
+    × LooksAsAsked of disk sectors start now old new second.notes second'.notes
 
 -- or they are asked for, and of the last one of the first ones a part of its lines was written
 -- that is shorter than they are

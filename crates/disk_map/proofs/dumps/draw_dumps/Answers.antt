@@ -8,7 +8,7 @@ use Rattle.disk_map.proofs.dumps.draw_dumps.Goals as goal
 pub returns-in-Err-clause-says : goal.returns-in-Err-clause-says
 returns-in-Err-clause-says g c =
     no-top (g.L.LineWriter.track_lines_of c.args.lines.now) (g.L.BesideWriter.lines_of c.args.lines.now) (disk_of c.args.dumps.now c.args.room.now.format)
-    (shelf_at g.H.Source g.H.Shelf c.args.shelf.now) (g.P.Sink.written c.args.picture.now) (g.N.Sink.written c.args.notes.now) (g.P.Sink.written c.write_top.new.picture)
+    (shelf_at g.H.Source g.H.Shelf c.args.shelf.now) (g.P.Sink.written c.args.picture.now) (g.N.Sink.written c.args.notes.now) (g.P.Sink.written c.begin_drawing.new.picture)
     (rw c.room_format-format.ensures at c.in-Err.ensures.err)
 
 pub returns-in-Err-read_dump_tracks-clause-says : goal.returns-in-Err-read_dump_tracks-clause-says
@@ -18,32 +18,32 @@ returns-in-Err-read_dump_tracks-clause-says g c =
     (g.P.Sink.written c.args.picture.now)
     (g.N.Sink.written c.args.notes.now)
     (shelf_at g.H.Source g.H.Shelf c.read_dump_tracks.new.shelf)
-    (g.P.Sink.written c.write_top.new.picture) (rw c.room_format-format.ensures at c.in-Ok.ensures.ok) (g.P.Sink.written c.read_dump_tracks.new.image)
+    (g.P.Sink.written c.begin_drawing.new.picture) (rw c.room_format-format.ensures at c.in-Ok.ensures.ok) (g.P.Sink.written c.read_dump_tracks.new.image)
     (g.N.Sink.written c.read_dump_tracks.new.notes) c.in-Err-read_dump_tracks.fault c.in-Err-read_dump_tracks.ensures.err
 
-pub returns-in-Ok-write_foot-clause-says : goal.returns-in-Ok-write_foot-clause-says
-returns-in-Ok-write_foot-clause-says g c = (
+pub returns-in-Ok-end_drawing-clause-says : goal.returns-in-Ok-end_drawing-clause-says
+returns-in-Ok-end_drawing-clause-says g c = (
   rw (c.room_format-format.ensures, c.in-None.is) at c.find_empty.ensures.told,
   drawn-all (g.L.LineWriter.track_lines_of c.args.lines.now) (g.L.BesideWriter.lines_of c.args.lines.now) (disk_of c.args.dumps.now c.args.room.now.format)
       (shelf_at g.H.Source g.H.Shelf c.args.shelf.now)
       (g.P.Sink.written c.args.picture.now)
       (g.N.Sink.written c.args.notes.now)
       (shelf_at g.H.Source g.H.Shelf c.read_dump_tracks.new.shelf)
-      (g.P.Sink.written c.write_top.new.picture) (rw c.room_format-format.ensures at c.in-Ok.ensures.ok) (g.P.Sink.written c.read_dump_tracks.new.image)
-      (g.N.Sink.written c.read_dump_tracks.new.notes) (g.P.Sink.written c.write_foot.new.picture) c.in-Ok-read_dump_tracks.totals
-      c.in-Ok-read_dump_tracks.ensures.ok (rw (c.of_format.ensures, c.room_format-format.ensures) at c.in-Ok-write_foot.ensures.ok),
+      (g.P.Sink.written c.begin_drawing.new.picture) (rw c.room_format-format.ensures at c.in-Ok.ensures.ok) (g.P.Sink.written c.read_dump_tracks.new.image)
+      (g.N.Sink.written c.read_dump_tracks.new.notes) (g.P.Sink.written c.end_drawing.new.picture) c.in-Ok-read_dump_tracks.totals
+      c.in-Ok-read_dump_tracks.ensures.ok (rw c.room_format-format.ensures at c.in-Ok-end_drawing.ensures.puts.ok),
 )
 
-pub returns-in-Err-write_foot-clause-says : goal.returns-in-Err-write_foot-clause-says
-returns-in-Err-write_foot-clause-says g c =
+pub returns-in-Err-end_drawing-clause-says : goal.returns-in-Err-end_drawing-clause-says
+returns-in-Err-end_drawing-clause-says g c =
     no-foot (g.L.LineWriter.track_lines_of c.args.lines.now) (g.L.BesideWriter.lines_of c.args.lines.now) (disk_of c.args.dumps.now c.args.room.now.format)
     (shelf_at g.H.Source g.H.Shelf c.args.shelf.now)
     (g.P.Sink.written c.args.picture.now)
     (g.N.Sink.written c.args.notes.now)
     (shelf_at g.H.Source g.H.Shelf c.read_dump_tracks.new.shelf)
-    (g.P.Sink.written c.write_top.new.picture) (rw c.room_format-format.ensures at c.in-Ok.ensures.ok) (g.P.Sink.written c.read_dump_tracks.new.image)
-    (g.N.Sink.written c.read_dump_tracks.new.notes) (g.P.Sink.written c.write_foot.new.picture) c.in-Ok-read_dump_tracks.totals
-    c.in-Ok-read_dump_tracks.ensures.ok (rw (c.of_format.ensures, c.room_format-format.ensures) at c.in-Err-write_foot.ensures.err)
+    (g.P.Sink.written c.begin_drawing.new.picture) (rw c.room_format-format.ensures at c.in-Ok.ensures.ok) (g.P.Sink.written c.read_dump_tracks.new.image)
+    (g.N.Sink.written c.read_dump_tracks.new.notes) (g.P.Sink.written c.end_drawing.new.picture) c.in-Ok-read_dump_tracks.totals
+    c.in-Ok-read_dump_tracks.ensures.ok (rw c.room_format-format.ensures at c.in-Err-end_drawing.ensures.puts.err)
 
 pub returns-in-Err-clause-blames : goal.returns-in-Err-clause-blames
 returns-in-Err-clause-blames g c = CountsBy-image _ _ true c.in-Err.ensures.counts
@@ -51,12 +51,12 @@ returns-in-Err-clause-blames g c = CountsBy-image _ _ true c.in-Err.ensures.coun
 pub returns-in-Err-read_dump_tracks-clause-blames : goal.returns-in-Err-read_dump_tracks-clause-blames
 returns-in-Err-read_dump_tracks-clause-blames g c = CountsBy-then _ (CountsBy-image _ _ false c.in-Ok.ensures.counts) c.in-Err-read_dump_tracks.ensures.blames
 
-pub returns-in-Ok-write_foot-clause-blames : goal.returns-in-Ok-write_foot-clause-blames
-returns-in-Ok-write_foot-clause-blames g c =
+pub returns-in-Ok-end_drawing-clause-blames : goal.returns-in-Ok-end_drawing-clause-blames
+returns-in-Ok-end_drawing-clause-blames g c =
     CountsBy-then _ (CountsBy-then _ (CountsBy-image _ _ false c.in-Ok.ensures.counts) c.in-Ok-read_dump_tracks.ensures.blames)
-    (CountsBy-image _ _ false c.in-Ok-write_foot.ensures.counts)
+    (CountsBy-image _ _ false c.in-Ok-end_drawing.ensures.puts.counts)
 
-pub returns-in-Err-write_foot-clause-blames : goal.returns-in-Err-write_foot-clause-blames
-returns-in-Err-write_foot-clause-blames g c =
+pub returns-in-Err-end_drawing-clause-blames : goal.returns-in-Err-end_drawing-clause-blames
+returns-in-Err-end_drawing-clause-blames g c =
     CountsBy-then _ (CountsBy-then _ (CountsBy-image _ _ false c.in-Ok.ensures.counts) c.in-Ok-read_dump_tracks.ensures.blames)
-    (CountsBy-image _ _ true c.in-Err-write_foot.ensures.counts)
+    (CountsBy-image _ _ true c.in-Err-end_drawing.ensures.puts.counts)

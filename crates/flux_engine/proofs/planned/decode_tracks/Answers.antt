@@ -7,6 +7,7 @@ use Rattle.flux_engine.specs.LoopProgress.{EndedInTrack, HasGathered}
 use Rattle.flux_engine.specs.Plans.{joined}
 use Rattle.flux_engine.specs.Recordings.{track_at}
 use Rattle.flux_engine.specs.Room.{RoomState}
+use Rattle.flux_engine.specs.SecondSinks.{WritesSecond}
 use Rattle.flux_engine.specs.TrackParts.{WritesPart}
 use Rattle.flux_engine.specs.Tracks.{track_notes}
 use Rattle.flux_engine.proofs.BlamedSteps.{sink_blames}
@@ -16,6 +17,9 @@ use Rattle.flux_engine.proofs.planned.decode_tracks.Goals as goal
 pub loop-number-init : goal.loop-number-init
 loop-number-init g c = record {
   written = written_start c.args.plan (g.O.TrackWriter.part_of c.args.writer.now) c.args.room.now.format
+      (g.T.TrackStreams.came c.args.streams.now c.args.plan c.args.room.now.format c.args.source.now c.args.source.now) _ _ c.args.room.now c.args.totals.now
+      c.requires.fresh c.requires.none (g.met.T.TrackStreams.begins c.args.streams.now c.args.plan c.args.room.now.format c.args.source.now);
+  second = λ sound. written_start c.args.plan (g.O.TrackWriter.second_part_of c.args.writer.now) c.args.room.now.format
       (g.T.TrackStreams.came c.args.streams.now c.args.plan c.args.room.now.format c.args.source.now c.args.source.now) _ _ c.args.room.now c.args.totals.now
       c.requires.fresh c.requires.none (g.met.T.TrackStreams.begins c.args.streams.now c.args.plan c.args.room.now.format c.args.source.now);
   sum = rw c.requires.none refl;
@@ -104,6 +108,24 @@ loop-number-preserved g c =
       written = written_more plan of format (g.T.TrackStreams.came c.args.streams.now plan format start c.loop-number.source) (g.T.TrackStreams.came c.args.streams.now plan format start c.read_captures.new.source)
           (g.W.Sink.written c.args.image.now) imid image' (g.N.Sink.written c.args.notes.now) nmid notes' room room' n c.loop-number.totals h gathered
           more c.add_totals.new.totals c.in-Ok.ensures.format c.in-Ok.ensures.counts c.in-Ok.ensures.sound wrote c.add_totals.ensures.value;
+      second = λ sound.
+          let second_of = g.O.TrackWriter.second_part_of c.args.writer.now in
+          let s0 = g.D.SecondSinks.now c.args.second.now in
+          let s = g.D.SecondSinks.now c.loop-number.second in
+          let s' = g.D.SecondSinks.now c.write_started.new.second in
+          let took = subst (λ (f : Format). WritesSecond (second_of f (track_at f n) (track_notes (joined gathered.captures) room'.passed gathered.others)) s s' (Ok more)) (c.in-Ok.ensures.format ∙ h.format_is)
+          (subst (λ (k : ℕ). WritesSecond (second_of room'.format (track_at room'.format k) (track_notes (joined gathered.captures) room'.passed gathered.others)) s s' (Ok more)) c.in-Ok.ensures.started
+          (e.second (joined gathered.captures) gathered.others gathered.stands gathered.others_stand)) sound in
+          let before = i.second took.0 in
+          let came2 = subst (λ (f : Format). g.T.TrackStreams.came c.args.streams.now plan f start c.loop-number.source room.held room.used before.streams) (sym h.format_is) before.came in
+          let gathered2 = subst (λ (f : Format). HasGathered plan f n (g.T.TrackStreams.came c.args.streams.now plan f start c.read_captures.new.source) before.streams room' plan.captures) h.format_is
+          (c.in-Ok.ensures.read start before.streams before.all before.whole came2) in
+          let took2 = subst (λ (f : Format). WritesSecond (second_of f (track_at f n) (track_notes (joined gathered2.captures) room'.passed gathered2.others)) s s' (Ok more)) (c.in-Ok.ensures.format ∙ h.format_is)
+          (subst (λ (k : ℕ). WritesSecond (second_of room'.format (track_at room'.format k) (track_notes (joined gathered2.captures) room'.passed gathered2.others)) s s' (Ok more)) c.in-Ok.ensures.started
+          (e.second (joined gathered2.captures) gathered2.others gathered2.stands gathered2.others_stand)) sound in
+          written_more plan second_of format (g.T.TrackStreams.came c.args.streams.now plan format start c.loop-number.source) (g.T.TrackStreams.came c.args.streams.now plan format start c.read_captures.new.source)
+          s0.image s.image s'.image s0.notes s.notes s'.notes room room' n c.loop-number.totals before gathered2
+          more c.add_totals.new.totals c.in-Ok.ensures.format c.in-Ok.ensures.counts c.in-Ok.ensures.sound took2.1 c.add_totals.ensures.value;
       sum = c.add_totals.ensures.sum;
       few = omega (arith, e.few, sum, i.few);
       counts = c.in-Ok.ensures.few;

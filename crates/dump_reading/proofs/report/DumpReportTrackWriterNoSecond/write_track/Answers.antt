@@ -1,8 +1,8 @@
-use Rattle.std.proofs.Common.{true, false}
+use Rattle.std.proofs.Common.{true, false, sym, true≢false}
 use Rattle.std.proofs.KnownBytes.{Appends-trans}
 use Rattle.flux_base.specs.lemmas.Blaming.{CountsBy-image, CountsBy-notes, CountsBy-then}
 use Rattle.flux_base.specs.lemmas.Parts.{AppendsPart-first, AppendsPart-second}
-use Rattle.dump_reading.proofs.report.DumpReportTrackWriter.write_track.Goals as goal
+use Rattle.dump_reading.proofs.report.DumpReportTrackWriterNoSecond.write_track.Goals as goal
 
 pub returns-in-Ok-write_others-clause-wrote : goal.returns-in-Ok-write_others-clause-wrote
 returns-in-Ok-write_others-clause-wrote g c = λ readings others stands stand.
@@ -55,3 +55,6 @@ pub returns-in-Err-write_others-clause-blames : goal.returns-in-Err-write_others
 returns-in-Err-write_others-clause-blames g c =
     CountsBy-then _ (CountsBy-then _ (CountsBy-then _ (CountsBy-image _ _ false c.in-Ok.ensures.counts) (CountsBy-notes _ _ false c.in-Ok-write_passed.ensures.counts))
     (CountsBy-notes _ _ false c.in-Ok-write_lines.ensures.counts)) (CountsBy-notes _ _ true c.in-Err-write_others.ensures.counts)
+
+pub returns-in-Ok-write_others-clause-second : goal.returns-in-Ok-write_others-clause-second
+returns-in-Ok-write_others-clause-second g c = λ readings others stands stand sound. absurd (true≢false (sym sound))
