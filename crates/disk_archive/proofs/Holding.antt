@@ -17,13 +17,12 @@ use Rattle.track_shelf.specs.Files.{File}
 use Rattle.disk_archive.specs.Answers.{HasHeld, IsKept, IsUnheld, ShelfDid, StatusTells, disk_as, status_of, summary_of}
 use Rattle.disk_archive.specs.Finding.{Asked, FailedIf, FailedSome, HasFound, HasNotFound, IsDisk}
 use Rattle.disk_archive.specs.Kept.{Kept}
-use Rattle.disk_archive.specs.Reading.{HasDrawn, HasRead, IsUnread}
+use Rattle.disk_archive.specs.Reading.{HasRead, IsUnread}
 use Rattle.disk_archive.specs.declared.fault.ArchiveFault.{ArchiveFault}
 use Rattle.disk_archive.specs.declared.fault.ArchiveFault.TheVariants.{Exists, FileFault, FolderFault, Memory, NoDisk, NoFiles, OutputFault}
 use Rattle.disk_archive.specs.declared.held.FoundDisk.{FoundDisk}
 use Rattle.disk_archive.specs.declared.held.HeldDisk.{HeldDisk}
-use Rattle.disk_archive.specs.declared.reading.Drawn.{Drawn}
-use Rattle.disk_archive.specs.declared.reading.Report.{Report}
+use Rattle.disk_archive.specs.declared.reading.Texts.{Texts}
 use Rattle.disk_archive.proofs.Shelves.{if-some, if-then, same-files, some-then}
 
 module _ (asked : Asked) (start : ShelfNow) where
@@ -62,41 +61,35 @@ module _ (asked : Asked) (start : ShelfNow) where
   pub after-found : (begun : ShelfNow) (found : FoundDisk) → HasFound asked start begun found → FailedSome start begun
   after-found begun found has = if-some has.shelf
 
-  pub after-read : (begun between : ShelfNow) (candidate : Candidate) (report : Report) → FailedSome start begun → HasRead (disk_as asked candidate) begun between report
-      → FailedSome start between
-  after-read begun between candidate report some reads = some-then some (if-some reads.shelf)
-
-  pub after-drawn : (between now : ShelfNow) (candidate : Candidate) (drawn : Drawn) → FailedSome start between → HasDrawn (disk_as asked candidate) between now drawn
-      → FailedSome start now
-  after-drawn between now candidate drawn some draws = some-then some (if-some draws.shelf)
+  pub after-read : (begun now : ShelfNow) (candidate : Candidate) (texts : Texts) → FailedSome start begun → HasRead (disk_as asked candidate) begun now texts → FailedSome start now
+  after-read begun now candidate texts some reads = some-then some (if-some reads.shelf)
 
   -- all was read
-  module _ (begun between now : ShelfNow) (found : FoundDisk) (report : Report) (drawn : Drawn) (has : HasFound asked start begun found)
-      (reads : HasRead (disk_as asked found.candidate) begun between report) (draws : HasDrawn (disk_as asked found.candidate) between now drawn) where
+  module _ (begun now : ShelfNow) (found : FoundDisk) (texts : Texts) (has : HasFound asked start begun found)
+      (reads : HasRead (disk_as asked found.candidate) begun now texts) where
     abbrev failed : Bool
-    failed = (found.failed || report.failed) || drawn.failed
+    failed = found.failed || texts.failed
 
     failed_if : FailedIf failed start now
-    failed_if = if-then (found.failed || report.failed) drawn.failed (if-then found.failed report.failed has.shelf reads.shelf) draws.shelf
+    failed_if = if-then found.failed texts.failed has.shelf reads.shelf
 
     abbrev held_by : Summary → SinkState → HeldDisk
-    held_by summary line = record { summary = summary; image = report.image; report = report.report; picture = drawn.picture; line = line }
+    held_by summary line = record { summary = summary; image = texts.image; report = texts.report; picture = texts.picture; line = line }
 
     abbrev summary : Summary
-    summary = summary_of asked found.candidate failed report.totals
+    summary = summary_of asked found.candidate failed texts.totals
 
-    holds_of : (line : SinkState) → ((ns : List Note) → drawn.notes.written ≡ notes_text ns → line.written ≡ summary_text summary ns)
+    holds_of : (line : SinkState) → ((ns : List Note) → texts.notes.written ≡ notes_text ns → line.written ≡ summary_text summary ns)
         → HasHeld asked start now (held_by summary line)
     holds_of line line_is = record {
       begun = begun;
       disk = has.disk;
       some = reads.some;
-      between = between;
+      between = reads.between;
       read = reads.wrote;
-      drawn = drawn.totals;
-      notes = draws.notes;
-      draws = draws.drew;
-      line_is = line_is draws.notes draws.text;
+      notes = reads.notes;
+      draws = reads.drew;
+      line_is = line_is reads.notes reads.text;
       dumps = refl;
       failed = failed;
       shelf = failed_if;
@@ -104,8 +97,8 @@ module _ (asked : Asked) (start : ShelfNow) where
     }
 
     pub holds : (told : Summary) (line : SinkState) → told ≡ summary
-        → ((ns : List Note) → drawn.notes.written ≡ notes_text ns → line.written ≡ summary_text told ns)
-        → HasHeld asked start now (record { summary = told; image = report.image; report = report.report; picture = drawn.picture; line = line })
+        → ((ns : List Note) → texts.notes.written ≡ notes_text ns → line.written ≡ summary_text told ns)
+        → HasHeld asked start now (record { summary = told; image = texts.image; report = texts.report; picture = texts.picture; line = line })
     holds told line same line_is =
         subst (λ (s : Summary). HasHeld asked start now (held_by s line)) (sym same)
         (holds_of line (λ ns are. line_is ns are ∙ ap (λ (s : Summary). summary_text s ns) same))

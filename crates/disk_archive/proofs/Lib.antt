@@ -5,3 +5,4 @@ pub mod Turned
 pub mod Holding
 pub mod MadeFiles
 pub mod Saying
+pub mod Fitting

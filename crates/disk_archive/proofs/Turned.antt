@@ -16,10 +16,10 @@ use Rattle.flux_base.specs.Moments.{Moment}
 use Rattle.flux_base.specs.declared.outside.Failed.{Failed}
 use Rattle.flux_engine.specs.LoopProgress.{lost_count}
 use Rattle.disk_archive.specs.Finding.{FailedIf, FailedSome}
-use Rattle.disk_archive.specs.Reading.{HasDrawn, HasDrawnDisk, HasNotedTurns, IsUnread, IsUnturned}
+use Rattle.disk_archive.specs.Reading.{HasNotedTurns, HasRead, HasReadDisk, IsUnread, IsUnturned}
 use Rattle.disk_archive.specs.declared.fault.ArchiveFault.{ArchiveFault}
 use Rattle.disk_archive.specs.declared.fault.ArchiveFault.TheVariants.{Exists, FileFault, FolderFault, Memory, NoDisk, NoFiles, OutputFault}
-use Rattle.disk_archive.specs.declared.reading.Drawn.{Drawn}
+use Rattle.disk_archive.specs.declared.reading.Texts.{Texts}
 use Rattle.disk_archive.proofs.Shelves.{if-some, if-then, none-if, some-then}
 
 -- the files of one dump that failed as they were measured
@@ -54,8 +54,8 @@ module _ {N : Type 0} (dumps : List (List ℕ)) (start now : ShelfNow) (before a
     wrote = wrote;
   }
 
--- The disk was drawn, and then its files were measured.
-module _ (disk : DumpDisk) (start mid now : ShelfNow) (drawn : Drawn) (has : HasDrawnDisk disk start mid drawn) where
+-- The disk was read, and then its files were measured.
+module _ (disk : DumpDisk) (start mid now : ShelfNow) (texts : Texts) (has : HasReadDisk disk start mid texts) where
   pub unturned : (fault : ArchiveFault) → IsUnturned mid now fault → IsUnread disk start now fault
   unturned Memory some = some-then (if-some has.shelf) some
   unturned (NoFiles empty) never = absurd never
@@ -65,22 +65,24 @@ module _ (disk : DumpDisk) (start mid now : ShelfNow) (drawn : Drawn) (has : Has
   unturned (FileFault file) never = absurd never
   unturned OutputFault never = absurd never
 
-  found_text : drawn.notes.written ≡ notes_text has.drew.noted
+  found_text : texts.notes.written ≡ notes_text has.drew.noted
   found_text = has.drew.both.wrote.grew ∙ has.drew.text
 
-  pub drawn-turned : (notes : SinkState) (turned : Bool) → HasNotedTurns disk.dumps mid now drawn.notes.written notes.written turned
-      → HasDrawn disk start now (record { picture = drawn.picture; notes = notes; totals = drawn.totals; failed = drawn.failed || turned })
-  drawn-turned notes turned turns = record {
+  pub read-turned : (notes : SinkState) (turned : Bool) → HasNotedTurns disk.dumps mid now texts.notes.written notes.written turned
+      → HasRead disk start now (record texts { notes = notes; failed = texts.failed || turned })
+  read-turned notes turned turns = record {
+    some = has.some;
+    between = mid;
+    wrote = has.wrote;
     notes = has.drew.noted ++ turns.uneven;
     text = turns.wrote ∙ ap (λ (t : List ℕ). t ++ notes_text turns.uneven) found_text ∙ sym (flat_map-append note_text has.drew.noted turns.uneven);
     drew = record {
-      between = mid;
       found = has.drew.noted;
-      drew = subst (λ (bytes : List ℕ). DrewNoted disk start mid (Some []) (Some drawn.picture.written) (Some []) (Some bytes) drawn.totals) found_text has.drew;
+      drew = subst (λ (bytes : List ℕ). DrewNoted disk has.wrote.looked mid (Some []) (Some texts.picture.written) (Some []) (Some bytes) texts.totals) found_text has.drew;
       uneven = turns.uneven;
       failed = turned;
       turned = turns.are;
       notes_are = refl;
     };
-    shelf = if-then drawn.failed turned has.shelf (turned-if disk.dumps (length disk.dumps) mid now turns.uneven turned turns.are);
+    shelf = if-then texts.failed turned has.shelf (turned-if disk.dumps (length disk.dumps) mid now turns.uneven turned turns.are);
   }

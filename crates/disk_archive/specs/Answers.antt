@@ -45,8 +45,8 @@ disk_as asked candidate = record {
 abbrev pub candidate_of : Summary → Candidate
 candidate_of summary = record { stepping = summary.stepping; format = summary.format }
 
--- What is kept: the disk was found, and read twice, for its image and report, which begins with what
--- is noted of SCP files, and for its picture and the notes of its summary, to which its files were
+-- What is kept: the disk was found, and read once, for its image and report, which begins with what is
+-- noted of SCP files, and for its picture and the notes of its summary, to which its files were
 -- measured. Its numbers are the report's, and its status tells all files that failed.
 pub record IsKept (asked : Asked) (start now : ShelfNow) (kept : Kept) : Type 0 where
   pub begun : ShelfNow
@@ -55,10 +55,9 @@ pub record IsKept (asked : Asked) (start now : ShelfNow) (kept : Kept) : Type 0 
   pub between : ShelfNow
   pub read : WroteBehindNotes (disk_as asked (candidate_of kept.summary)) begun between kept.image
       kept.report kept.summary.totals
-  pub drawn : DumpTotals
   pub notes : List Note
-  pub draws : DrewAllNoted (disk_as asked (candidate_of kept.summary)) between now kept.picture
-      notes drawn
+  pub draws : DrewAllNoted (disk_as asked (candidate_of kept.summary)) read.looked between now
+      kept.picture notes kept.summary.totals
   pub line_is : kept.line ≡ summary_text kept.summary notes
   pub dumps : kept.summary.dumps ≡ length asked.dumps
   pub failed : Bool

@@ -18,7 +18,7 @@ use crate::fault::ArchiveFault;
 use crate::finding::find_disk;
 use crate::held::{FoundDisk, HeldDisk};
 use crate::making::make_files;
-use crate::reading::{TEXT_ROOM, draw, read_report, room_of};
+use crate::reading::{TEXT_ROOM, read_texts, room_of};
 use disk_summary::{Summary, write_summary};
 use dump_identity::Candidate;
 use dump_reading::{DumpTotals, Dumps};
@@ -31,7 +31,7 @@ use track_shelf::Shelf;
 /// the image, a picture of the verdicts, and a summary, which is the last file that is made; where all of it is there,
 /// the folder is whole. The summary goes to `line` too. The report is what `read` has for its notes: it begins with what
 /// is noted of the dumps that are SCP files. The disk is the one that is asked for, or the one by which the first dump
-/// that one explains is explained best. The texts are made in memory, by two readings of the disk and a measuring of its
+/// that one explains is explained best. The texts are made in memory, by one reading of the disk and a measuring of its
 /// files' revolutions. Gives how the run ends.
 ///
 /// Where the folder is there, nothing is read. Nothing is made before all was read. After `FileFault` the files before
@@ -112,22 +112,18 @@ fn hold_found<H: Shelf>(
         names: asked.dumps,
         stepping: found.candidate.stepping,
     };
-    let read = match read_report(alloc, format, &dumps, shelf) {
+    let read = match read_texts(alloc, format, &dumps, shelf) {
         Ok(read) => read,
         Err(fault) => return Err(fault),
     };
-    let drawn = match draw(alloc, format, &dumps, shelf) {
-        Ok(drawn) => drawn,
-        Err(fault) => return Err(fault),
-    };
-    let failed = found.failed | read.failed | drawn.failed;
+    let failed = found.failed | read.failed;
     let summary = summary_of(asked, found.candidate, failed, &read.totals);
-    match line_of(alloc, &summary, drawn.notes.bytes()) {
+    match line_of(alloc, &summary, read.notes.bytes()) {
         Ok(line) => Ok(HeldDisk {
             summary,
             image: read.image,
             report: read.report,
-            picture: drawn.picture,
+            picture: read.picture,
             line,
         }),
         Err(Memory) => Err(ArchiveFault::Memory),

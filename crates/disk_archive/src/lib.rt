@@ -7,6 +7,7 @@ mod asked;
 mod fault;
 mod finding;
 mod held;
+mod kept_writer;
 mod making;
 mod names;
 mod reading;
