@@ -18,7 +18,7 @@ use Rattle.flux_engine.specs.lemmas.Pieces.{pieces-more}
 use Rattle.dump_reading.specs.Files.{ShelfNow}
 use Rattle.dump_reading.specs.lemmas.Coming.{came-gave, flat-same, none_came}
 use Rattle.dump_turns.specs.Files.{AreFound, HasSize, IsToldOf, found_at}
-use Rattle.dump_turns.specs.Lines.{file_lines, found_text, line_at, uneven_at, uneven_text}
+use Rattle.dump_turns.specs.Lines.{far_mean, file_lines, found_text, line_at, uneven_at, uneven_text}
 use Rattle.dump_turns.specs.Reaches.{of_dump, track_number}
 use Rattle.dump_turns.specs.declared.found.Found.{Found}
 use Rattle.dump_turns.specs.declared.found.Found.TheVariants.{PassedOver}
@@ -134,9 +134,9 @@ module _ (reach : Reach) (founds : List Found) (found : Found) where
 
 -- and so does the line that its mean is far from the median
 pub uneven-piece : (reach : Reach) (founds : List Found) (median n : ℕ) (track : TrackId) → track ≡ track_number reach n → (d : Found) → n < length founds
-    → uneven_text track median (get_or founds n d) ≡ uneven_at reach founds median (0 + n)
+    → uneven_text track (far_mean median (get_or founds n d)) ≡ uneven_at reach founds median (0 + n)
 uneven-piece reach founds median n track is d below =
     let zero_at : n ≡ 0 + n = omega arith in
-    ap (λ (t : TrackId). uneven_text t median (get_or founds n d)) is
-    ∙ ap (uneven_text (track_number reach n) median) (get_or_default founds n d (PassedOver Absent) below)
+    ap (λ (t : TrackId). uneven_text t (far_mean median (get_or founds n d))) is
+    ∙ ap (λ (f : Found). uneven_text (track_number reach n) (far_mean median f)) (get_or_default founds n d (PassedOver Absent) below)
     ∙ ap (uneven_at reach founds median) zero_at

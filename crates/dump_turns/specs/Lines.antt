@@ -2,6 +2,7 @@
 use Rattle.std.specs.Prelude.{if◌then◌else◌, ℕ, ◌/◌, ◌%◌, Bool, true, false, List, [], ◌++◌, codes}
 use Rattle.std.specs.Prelude.{count_by, decimal, flat_map, length, nat_lt, Option, Some, None}
 use Rattle.std.specs.List.{range_with_len}
+use Rattle.std.specs.Option.{is_some}
 use Rattle.flux_base.specs.declared.track.TrackId.{TrackId}
 use Rattle.sector_report.specs.Lines.{fault_text, two_digits}
 use Rattle.sector_report.specs.ScpLines.{scp_fault_text}
@@ -57,20 +58,29 @@ line_at reach founds n = found_text (track_number reach n) (found_at founds n)
 abbrev pub file_lines : Reach → List Found → List ℕ
 file_lines reach founds = flat_map (line_at reach founds) (range_with_len 0 (length founds))
 
+-- the mean of a file, where it is far from this median
+abbrev pub far_mean : (median : ℕ) → Found → Option ℕ
+far_mean median (PassedOver why) = None
+far_mean median (Read turns) =
+    if is_uneven (mean_of turns) median then Some (mean_of turns) else None
+
+-- the same, where there is a median
+abbrev pub uneven_mean : Option Spread → Found → Option ℕ
+uneven_mean None found = None
+uneven_mean (Some spread) found = far_mean spread.median found
+
 -- that a file's mean is far from the median
 unfoldable pub uneven_line_text : TrackId → (mean : ℕ) → List ℕ
 uneven_line_text track mean =
     codes "uneven " ++ track_text track ++ codes " " ++ decimal mean ++ codes "\n"
 
-abbrev pub uneven_text : TrackId → (median : ℕ) → Found → List ℕ
-uneven_text track median (PassedOver why) = []
-uneven_text track median (Read turns) =
-    if is_uneven (mean_of turns) median
-    then uneven_line_text track (mean_of turns) else []
+abbrev pub uneven_text : TrackId → Option ℕ → List ℕ
+uneven_text track None = []
+uneven_text track (Some mean) = uneven_line_text track mean
 
 abbrev pub uneven_at : Reach → List Found → (median : ℕ) → ℕ → List ℕ
 uneven_at reach founds median n =
-    uneven_text (track_number reach n) median (found_at founds n)
+    uneven_text (track_number reach n) (far_mean median (found_at founds n))
 
 abbrev pub uneven_lines : Reach → List Found → (median : ℕ) → List ℕ
 uneven_lines reach founds median =
@@ -106,19 +116,8 @@ abbrev pub has_failed : Found → Bool
 has_failed (PassedOver Failed) = true
 has_failed _ = false
 
-abbrev pub is_far_from : Option Spread → (mean : ℕ) → Bool
-is_far_from None mean = false
-is_far_from (Some spread) mean = is_uneven mean spread.median
-
 abbrev pub is_far : Option Spread → Found → Bool
-is_far spread (PassedOver why) = false
-is_far spread (Read turns) = is_far_from spread (mean_of turns)
-
--- the mean of a file, where it is far from the median
-abbrev pub uneven_mean : Option Spread → Found → Option ℕ
-uneven_mean spread (PassedOver why) = None
-uneven_mean spread (Read turns) =
-    if is_far_from spread (mean_of turns) then Some (mean_of turns) else None
+is_far spread found = is_some (uneven_mean spread found)
 
 -- how many of each kind there are
 abbrev pub totals_of : List Found → Option Spread → TurnTotals

@@ -7,12 +7,11 @@ ghost use Rattle.dump_turns.specs.Lines.{uneven_mean};
 ghost use Rattle.dump_turns.specs.Outcomes.{SaysOfMeasuring};
 ghost use Rattle.dump_turns.specs.Spreads.{IsBoundedSpread};
 
-use crate::found::Found;
 use crate::reach::{Reach, find_reach};
 use crate::room::TurnsRoom;
 use crate::spread::Spread;
 use crate::telling::{spread_among, tell_files, totals};
-use crate::totals::{TurnTotals, is_far};
+use crate::totals::TurnTotals;
 use flux_base::{CountingSink, Failed, Word};
 use track_shelf::Shelf;
 
@@ -70,9 +69,6 @@ impl TurnsRoom {
         requires spread { IfSome spread.now IsBoundedSpread }
         ensures { result ≡ uneven_mean spread.now (found_at self.now number) }
     {
-        match &self.founds[usize::from(number)] {
-            Found::Read(turns) if is_far(turns.mean(), spread) => Some(turns.mean()),
-            _ => None,
-        }
+        self.founds[usize::from(number)].uneven_mean(spread)
     }
 }

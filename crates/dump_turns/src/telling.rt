@@ -10,7 +10,7 @@ ghost use Rattle.flux_engine.specs.Blamed.{sink_blame};
 ghost use Rattle.dump_reading.specs.Files.{shelf_at};
 ghost use Rattle.dump_turns.specs.Files.{AreFound, means_in};
 ghost use Rattle.dump_turns.specs.Lines.{end_text, file_lines, found_text, spread_lines, totals_of, uneven_lines};
-ghost use Rattle.dump_turns.specs.Lines.{uneven_text};
+ghost use Rattle.dump_turns.specs.Lines.{far_mean, uneven_text};
 ghost use Rattle.dump_turns.specs.Outcomes.{SaysOfTurns};
 ghost use Rattle.dump_turns.specs.Reaches.{IsBoundedReach, count_in};
 ghost use Rattle.dump_turns.specs.Spreads.{IsBoundedSpread, IsSpreadOf};
@@ -21,7 +21,7 @@ use crate::found::Found;
 use crate::lines::{counts_line, passed_line, spread_line, ticks_line, totals_line, uneven_line};
 use crate::reach::{Reach, find_reach};
 use crate::room::TurnsRoom;
-use crate::spread::{Spread, is_uneven, spread_of};
+use crate::spread::{Spread, spread_of};
 use crate::totals::TurnTotals;
 use dump_reading::NoFiles;
 use flux_base::{Failed, Sink, TrackId, Word};
@@ -222,13 +222,12 @@ fn write_if_uneven<W: Sink>(
 ) -> Result<(), Failed>
     requires bounded { IsBoundedFound found.now }
     requires median { median < 1000000000000 }
-    ensures { Puts (sink_at W.Sink lines.old) (sink_at W.Sink lines.new) (uneven_text track median found.now) result }
+    ensures { Puts (sink_at W.Sink lines.old) (sink_at W.Sink lines.new) (uneven_text track (far_mean median found.now))
+        result }
 {
-    match found {
-        Found::Read(turns) if is_uneven(turns.mean(), median) => {
-            write_line(lines, &uneven_line(track, turns.mean()))
-        }
-        _ => Ok(()),
+    match found.far_mean(median) {
+        Some(mean) => write_line(lines, &uneven_line(track, mean)),
+        None => Ok(()),
     }
 }
 

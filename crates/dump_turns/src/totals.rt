@@ -1,13 +1,13 @@
 //! How many files of a dump there are.
 
 ghost use Rattle.std.specs.Prelude.{◌≡◌, ◌<◌, ◌++◌, ◌∷◌, [], List, IfSome};
-ghost use Rattle.dump_turns.specs.Lines.{is_far_from, totals_of};
+ghost use Rattle.dump_turns.specs.Lines.{totals_of};
 ghost use Rattle.dump_turns.specs.Spreads.{IsBoundedSpread};
 ghost use Rattle.dump_turns.specs.declared.found.Found.{Found};
 ghost use Rattle.dump_turns.specs.inside.Told.{AreBelow, IsBoundedFound};
 
 use crate::found::Found;
-use crate::spread::{Spread, is_uneven};
+use crate::spread::Spread;
 use sector_report::Passed;
 
 /// How many files of a dump there are, and how many of each kind.
@@ -42,24 +42,12 @@ impl TurnTotals {
                 self.files += 1;
                 self.refused += 1;
             }
-            Found::Read(turns) => {
+            Found::Read(_) => {
                 self.files += 1;
-                if is_far(turns.mean(), spread) {
+                if found.uneven_mean(spread).is_some() {
                     self.uneven += 1;
                 }
             }
         }
-    }
-}
-
-/// Whether a mean is far from the median, if there is one.
-pub(crate) fn is_far(mean: u64, spread: &Option<Spread>) -> bool
-    requires mean { mean < 1000000000000 }
-    requires spread { IfSome spread.now IsBoundedSpread }
-    ensures { result ≡ is_far_from spread.now mean }
-{
-    match spread {
-        Some(spread) => is_uneven(mean, spread.median),
-        None => false,
     }
 }
