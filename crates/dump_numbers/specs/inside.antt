@@ -2,3 +2,4 @@
 pub mod Walked
 pub mod Noted
 pub mod Headed
+pub mod Header

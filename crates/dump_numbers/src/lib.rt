@@ -4,6 +4,7 @@
 #![tactic(auto)]
 
 mod finding;
+mod header;
 mod heads;
 mod laws;
 mod names;

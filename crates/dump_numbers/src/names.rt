@@ -1,16 +1,17 @@
 //! The sector numbers of a track's own names that have whole data.
 
-ghost use Rattle.std.specs.Prelude.{◌≡◌, ◌≢◌, ◌↔◌, ◌<◌, ◌≤◌, ◌+◌, ℕ, true, drop, length, take, IsTrue};
+ghost use Rattle.std.specs.Prelude.{◌≡◌, ◌≢◌, ◌↔◌, ◌<◌, ◌≤◌, ℕ, true, drop, length, IsTrue};
 ghost use Rattle.std.specs.Prelude.{IfNone, IfSome};
-ghost use Rattle.cell_bits.specs.Ones.{ones};
 ghost use Rattle.flux_base.specs.declared.header_name.HeaderName.TheVariants.{Address as AddressOf};
 ghost use Rattle.flux_engine.specs.Gathering.{AreCellsOf};
 ghost use Rattle.ibm_disks.specs.Numbers.{code_of};
 ghost use Rattle.ibm_disks.specs.declared.sector_size.SectorSize.{SectorSize as Size};
 ghost use Rattle.told_disks.specs.Names.{has};
 ghost use Rattle.dump_numbers.specs.OwnNames.{HasDataOf, HasName, HasWholeAt, other_head};
+ghost use Rattle.dump_numbers.specs.inside.Header.{IsFound};
 ghost use Rattle.dump_numbers.specs.inside.Walked.{AddsName};
 
+use crate::header::FoundHeader;
 use crate::rates::recording_with_one;
 use crate::turn_rule::is_of_rate;
 use cell_bits::Cells;
@@ -53,8 +54,15 @@ pub(crate) fn track_names(rate: Rate, own: TrackId, flux: &TrackFlux, cells: &Ce
     let mut passed = 0;
     while let Some((place, name)) = next_name(&recording, cells, from) {
         passed += cells.ones_between(from, place + 1);
-        note_name(rate, own, flux, cells, place, passed, name, &mut names);
-        note_name(rate, across, flux, cells, place, passed, name, &mut others);
+        let header = FoundHeader {
+            rate,
+            flux,
+            cells,
+            place,
+            ones_to: passed,
+        };
+        note_name(&header, own, name, &mut names);
+        note_name(&header, across, name, &mut others);
         from = place + 1;
     }
     TrackNames {
@@ -63,29 +71,17 @@ pub(crate) fn track_names(rate: Rate, own: TrackId, flux: &TrackFlux, cells: &Ce
     }
 }
 
-/// Adds the sector number of a header that stands at a place, where its name is an own one and has whole data. So many
-/// ones stand up to the place.
-fn note_name(
-    rate: Rate,
-    own: TrackId,
-    flux: &TrackFlux,
-    cells: &Cells,
-    place: usize,
-    ones_to: usize,
-    name: HeaderName,
-    names: &mut NameSet,
-)
-    requires turns { 2 ≤ length flux.now.indexes }
-    requires cells { AreCellsOf flux.now.times cells.now.cells }
-    requires ones { ones_to ≡ ones (take (place + 1) cells.now.cells) }
-    requires within { place < length cells.now.cells }
+/// Adds the sector number of a header of this name, where it is an own one and has whole data.
+fn note_name(header: &FoundHeader, own: TrackId, name: HeaderName, names: &mut NameSet)
+    requires { IsFound header.now }
     ensures full { length names.new ≡ length names.old }
-    ensures adds { AddsName rate own flux.now.times flux.now.indexes cells.now.cells place name names.old names.new }
+    ensures adds { AddsName header.now.rate own header.now.flux.now.times header.now.flux.now.indexes
+        header.now.cells.now.cells header.now.place name names.old names.new }
 {
     let Some((size, number)) = own_number(own, name) else {
         return;
     };
-    if has_whole(rate, size, flux, cells, place, ones_to) {
+    if has_whole(header, size) {
         names.insert(size, number);
     }
 }
@@ -122,46 +118,27 @@ fn own_number(own: TrackId, name: HeaderName) -> Option<(SectorSize, u8)>
     }
 }
 
-/// Whether data of a size and a rate stand behind the header at a place, up to which so many ones stand.
-fn has_whole(
-    rate: Rate,
-    size: SectorSize,
-    flux: &TrackFlux,
-    cells: &Cells,
-    place: usize,
-    ones_to: usize,
-) -> bool
-    requires turns { 2 ≤ length flux.now.indexes }
-    requires cells { AreCellsOf flux.now.times cells.now.cells }
-    requires ones { ones_to ≡ ones (take (place + 1) cells.now.cells) }
-    requires within { place < length cells.now.cells }
-    ensures { IsTrue result ↔ HasWholeAt rate flux.now.times flux.now.indexes cells.now.cells size place }
+/// Whether data of a size and the header's rate stand behind it.
+fn has_whole(header: &FoundHeader, size: SectorSize) -> bool
+    requires { IsFound header.now }
+    ensures { IsTrue result ↔ HasWholeAt header.now.rate header.now.flux.now.times header.now.flux.now.indexes
+        header.now.cells.now.cells size header.now.place }
 {
-    let recording = recording_with_one(rate, size);
-    has_data_of(&recording, rate, flux, cells, place, ones_to)
+    let recording = recording_with_one(header.rate, size);
+    has_data_of(&recording, header)
 }
 
-/// Whether data of the recording's size and of a rate stand behind the header at a place, up to which so many ones
-/// stand.
-fn has_data_of<R: Recording>(
-    recording: &R,
-    rate: Rate,
-    flux: &TrackFlux,
-    cells: &Cells,
-    place: usize,
-    ones_to: usize,
-) -> bool
-    requires turns { 2 ≤ length flux.now.indexes }
-    requires cells { AreCellsOf flux.now.times cells.now.cells }
-    requires ones { ones_to ≡ ones (take (place + 1) cells.now.cells) }
-    requires within { place < length cells.now.cells }
-    ensures { IsTrue result ↔ HasDataOf rate flux.now.times flux.now.indexes cells.now.cells
-        (R.data_at recording.now (drop place cells.now.cells)) place }
+/// Whether data of the recording's size and of the header's rate stand behind it.
+fn has_data_of<R: Recording>(recording: &R, header: &FoundHeader) -> bool
+    requires { IsFound header.now }
+    ensures { IsTrue result ↔ HasDataOf header.now.rate header.now.flux.now.times header.now.flux.now.indexes
+        header.now.cells.now.cells (R.data_at recording.now (drop header.now.place header.now.cells.now.cells))
+        header.now.place }
 {
     let mut buffer = SectorBuffer::new();
     let mut from = 0;
-    while let Some(behind) = recording.next_data(cells, place, from, &mut buffer) {
-        if is_of_rate(rate, flux, cells, place, ones_to, behind) {
+    while let Some(behind) = recording.next_data(header.cells, header.place, from, &mut buffer) {
+        if is_of_rate(header, behind) {
             return true;
         }
         from = behind + 1;

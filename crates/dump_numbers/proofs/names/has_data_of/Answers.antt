@@ -13,29 +13,29 @@ loop-behind-init g c = λ behind bytes low stands of_rate. omega (arith, low)
 
 pub is_of_rate-requires-clause-within : goal.is_of_rate-requires-clause-within
 is_of_rate-requires-clause-within g c =
-    let here = g.met.R.Recording.data_inside c.args.recording.now (drop c.args.place c.args.cells.now.cells) c.in-Some.behind _ c.in-Some.ensures.1 in
-    let size = length-drop c.args.place c.args.cells.now.cells in
+    let here = g.met.R.Recording.data_inside c.args.recording.now (drop c.args.header.now.place c.args.header.now.cells.now.cells) c.in-Some.behind _ c.in-Some.ensures.1 in
+    let size = length-drop c.args.header.now.place c.args.header.now.cells.now.cells in
     omega (arith, here, size)
 
 pub overflow_add-from : goal.overflow_add-from
 overflow_add-from g c =
-    let here = g.met.R.Recording.data_inside c.args.recording.now (drop c.args.place c.args.cells.now.cells) c.in-Some.behind _ c.in-Some.ensures.1 in
-    let size = length-drop c.args.place c.args.cells.now.cells in
+    let here = g.met.R.Recording.data_inside c.args.recording.now (drop c.args.header.now.place c.args.header.now.cells.now.cells) c.in-Some.behind _ c.in-Some.ensures.1 in
+    let size = length-drop c.args.header.now.place c.args.header.now.cells.now.cells in
     let few = c.requires.cells.few in
     omega (arith, here, size, few)
 
 pub loop-behind-preserved : goal.loop-behind-preserved
 loop-behind-preserved g c = λ behind bytes low stands of_rate. by behind bytes low stands of_rate (cases_lt behind c.loop-behind.from) (cases_lt behind c.in-Some.behind)
   where
-    by : (behind : ℕ) (bytes : List ℕ) → behind < c.in-Some.behind + 1 → g.R.Recording.data_at c.args.recording.now (drop c.args.place c.args.cells.now.cells) behind bytes
-        → is_of_rate c.args.rate c.args.flux.now.times c.args.flux.now.indexes c.args.cells.now.cells c.args.place behind ≡ true
+    by : (behind : ℕ) (bytes : List ℕ) → behind < c.in-Some.behind + 1 → g.R.Recording.data_at c.args.recording.now (drop c.args.header.now.place c.args.header.now.cells.now.cells) behind bytes
+        → is_of_rate c.args.header.now.rate c.args.header.now.flux.now.times c.args.header.now.flux.now.indexes c.args.header.now.cells.now.cells c.args.header.now.place behind ≡ true
         → (behind < c.loop-behind.from) ⊎ (c.loop-behind.from ≤ behind) → (behind < c.in-Some.behind) ⊎ (c.in-Some.behind ≤ behind) → ⊥
     by behind bytes low stands of_rate (inl early) _ = c.loop-behind.invariant behind bytes early stands of_rate
     by behind bytes low stands of_rate (inr late) (inl between) = c.in-Some.ensures.2 behind bytes late between stands
     by behind bytes low stands of_rate (inr late) (inr past) =
         let same : behind ≡ c.in-Some.behind = omega (arith, low, past) in
         no (sym c.if-is_of_rate.false ∙ c.is_of_rate.ensures
-        ∙ ap (is_of_rate c.args.rate c.args.flux.now.times c.args.flux.now.indexes c.args.cells.now.cells c.args.place) (sym same) ∙ of_rate)
+        ∙ ap (is_of_rate c.args.header.now.rate c.args.header.now.flux.now.times c.args.header.now.flux.now.indexes c.args.header.now.cells.now.cells c.args.header.now.place) (sym same) ∙ of_rate)
 
 pub returns-then-is_of_rate : goal.returns-then-is_of_rate
 returns-then-is_of_rate g c = (
@@ -46,8 +46,8 @@ returns-then-is_of_rate g c = (
 pub returns : goal.returns
 returns g c = (λ yes. absurd (no yes), λ has. absurd (by has (cases_lt has.behind c.loop-behind.from)))
   where
-    by : (has : HasDataOf c.args.rate c.args.flux.now.times c.args.flux.now.indexes c.args.cells.now.cells
-        (g.R.Recording.data_at c.args.recording.now (drop c.args.place c.args.cells.now.cells)) c.args.place)
+    by : (has : HasDataOf c.args.header.now.rate c.args.header.now.flux.now.times c.args.header.now.flux.now.indexes c.args.header.now.cells.now.cells
+        (g.R.Recording.data_at c.args.recording.now (drop c.args.header.now.place c.args.header.now.cells.now.cells)) c.args.header.now.place)
         → (has.behind < c.loop-behind.from) ⊎ (c.loop-behind.from ≤ has.behind) → ⊥
     by has (inl early) = c.loop-behind.invariant has.behind has.bytes early has.stand has.of_rate
     by has (inr late) = c.in_default.ensures.1 has.behind has.bytes late has.stand

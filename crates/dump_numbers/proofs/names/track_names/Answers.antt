@@ -21,11 +21,21 @@ overflow_add-passed c =
     let few = c.requires.cells.few in
     omega (arith, walk, most, few)
 
-pub note_name-requires-clause-ones : goal.note_name-requires-clause-ones
-note_name-requires-clause-ones c = ones_on c.args.cells.now.cells c.loop-place.from (c.in-Some.place + 1) c.loop-place.passed c.ones_between-passed.result c.loop-place.invariant.passed c.ones_between-passed.ensures.walk
+pub note_name-requires : goal.note_name-requires
+note_name-requires c = record {
+  turns = c.requires.turns;
+  cells = c.requires.cells;
+  ones_to = ones_on c.args.cells.now.cells c.loop-place.from (c.in-Some.place + 1) c.loop-place.passed c.ones_between-passed.result c.loop-place.invariant.passed c.ones_between-passed.ensures.walk;
+  within = c.in-Some.ensures.within;
+}
 
-pub note_name-requires-in-Some-clause-ones : goal.note_name-requires-in-Some-clause-ones
-note_name-requires-in-Some-clause-ones c = ones_on c.args.cells.now.cells c.loop-place.from (c.in-Some.place + 1) c.loop-place.passed c.ones_between-passed.result c.loop-place.invariant.passed c.ones_between-passed.ensures.walk
+pub note_name-requires-in-Some : goal.note_name-requires-in-Some
+note_name-requires-in-Some c = record {
+  turns = c.requires.turns;
+  cells = c.requires.cells;
+  ones_to = ones_on c.args.cells.now.cells c.loop-place.from (c.in-Some.place + 1) c.loop-place.passed c.ones_between-passed.result c.loop-place.invariant.passed c.ones_between-passed.ensures.walk;
+  within = c.in-Some.ensures.within;
+}
 
 pub loop-place-preserved : goal.loop-place-preserved
 loop-place-preserved c =
