@@ -1,8 +1,6 @@
 //! Joined streams as files.
 
 ghost use Rattle.std.specs.Prelude.{◌≡◌, ◌<◌, [], None, is_err, IfSome};
-ghost use Rattle.file_maker.specs.Made.{path_in};
-ghost use Rattle.file_maker.specs.Makes.{MakesFile};
 ghost use Rattle.flux_base.specs.Blames.{CountsBy, no_counts, three_counts};
 ghost use Rattle.flux_base.specs.Counts.{Counts, counts_of};
 ghost use Rattle.flux_base.specs.World.{source_counts};
@@ -15,8 +13,8 @@ use crate::ahead::Ahead;
 use crate::fault::SplitFault;
 use crate::heads::Heads;
 use crate::room::SplitRoom;
-use file_maker::FileMaker;
-use flux_base::{Failed, Source, write_whole};
+use file_maker::{FileMaker, make_whole};
+use flux_base::{Failed, Source};
 use kryo_stream::StreamRoom;
 use track_shelf::file_name;
 
@@ -143,7 +141,7 @@ fn split_one<M: FileMaker>(
         Err(_) => return Err(SplitFault::FolderFault),
     }
     let name = file_name(heads.track(stream));
-    match make_file(folder, name.as_str(), &ahead.bytes()[..size], maker) {
+    match make_whole(folder, name.as_str(), &ahead.bytes()[..size], maker) {
         Ok(()) => {}
         Err(_) => return Err(SplitFault::FileFault { stream }),
     }
@@ -162,25 +160,4 @@ fn make_before<M: FileMaker>(stream: u32, folder: &[u8], maker: &mut M) -> Resul
     } else {
         Ok(())
     }
-}
-
-/// Makes a file of these bytes.
-fn make_file<M: FileMaker>(
-    folder: &[u8],
-    name: &str,
-    bytes: &[u8],
-    maker: &mut M,
-) -> Result<(), Failed>
-    ensures made { MakesFile (record { path = path_in folder.now name.now; bytes = bytes.now }) (M.made maker.old)
-        (M.made maker.new) result }
-    ensures counts { Counts (is_err result) (counts_of M.faults M.failed maker.old)
-        (counts_of M.faults M.failed maker.new) }
-{
-    let mut file = match maker.make_file(folder, name) {
-        Ok(file) => file,
-        Err(failed) => return Err(failed),
-    };
-    let answer = write_whole(&mut file, bytes);
-    maker.close_file(file);
-    answer
 }

@@ -13,16 +13,16 @@ returns-in-Err-make_before-clause-one g c =
     c.in-Err-make_before.field-0 c.in-Err-make_before.ensures.made in
     (not.0, c.in-Ok.size, _, rw c.bytes.ensures at c.in-Ok.ensures.read, not.1)
 
-pub returns-in-Err-make_file-clause-one : goal.returns-in-Err-make_file-clause-one
-returns-in-Err-make_file-clause-one g c =
+pub returns-in-Err-make_whole-clause-one : goal.returns-in-Err-make_whole-clause-one
+returns-in-Err-make_whole-clause-one g c =
     let split : SplitFolder = record { folder = c.args.folder.now; heads = c.args.heads } in
     let old = g.M.FileMaker.made c.args.maker.now in
     let mid = g.M.FileMaker.made c.make_before.new.maker in
-    let new = g.M.FileMaker.made c.make_file.new.maker in
+    let new = g.M.FileMaker.made c.make_whole.new.maker in
     let size = c.in-Ok.size in
     let is = file-is split c.args.stream c.as_str.result.now _ (take size c.args.ahead.now) c.track.result (c.as_str.ensures.value ∙ c.file_name-name.ensures) c.track.ensures.value
     (ap (take size) c.bytes-2.ensures) in
-    let cut = cut-made split old mid new _ _ c.in-Err-make_file.field-0 is c.in-Err-make_file.ensures.made in
+    let cut = cut-made split old mid new _ _ c.in-Err-make_whole.field-0 is c.in-Err-make_whole.ensures.made in
     (refl, size, _, rw c.bytes.ensures at c.in-Ok.ensures.read, cut.0, cut.1, made-behind split old mid new c.args.stream _ cut.0 c.in-Ok-make_before.ensures.made cut.2)
 
 pub returns-clause-one : goal.returns-clause-one
@@ -30,7 +30,7 @@ returns-clause-one g c =
     let split : SplitFolder = record { folder = c.args.folder.now; heads = c.args.heads } in
     let old = g.M.FileMaker.made c.args.maker.now in
     let mid = g.M.FileMaker.made c.make_before.new.maker in
-    let new = g.M.FileMaker.made c.make_file.new.maker in
+    let new = g.M.FileMaker.made c.make_whole.new.maker in
     let size = c.in-Ok.size in
     let is = file-is split c.args.stream c.as_str.result.now _ (take size c.args.ahead.now) c.track.result (c.as_str.ensures.value ∙ c.file_name-name.ensures) c.track.ensures.value
     (ap (take size) c.bytes-2.ensures) in (
@@ -39,5 +39,5 @@ returns-clause-one g c =
       rw c.bytes.ensures at c.in-Ok.ensures.read,
       c.pass.ensures,
       made-behind split old mid new c.args.stream _ _ c.in-Ok-make_before.ensures.made
-          (whole-made split old mid new _ _ is c.in-Ok-make_file.ensures.made),
+          (whole-made split old mid new _ _ is c.in-Ok-make_whole.ensures.made),
     )

@@ -4,7 +4,7 @@ use Rattle.std.specs.Prelude.{is_err}
 use Rattle.file_maker.specs.Made.{path_in}
 use Rattle.file_maker.specs.lemmas.Closing.{Counts-closed}
 use Rattle.file_maker.specs.lemmas.Making.{makes_file, new_is_empty}
-use Rattle.stream_files.proofs.splitting.make_file.Goals as goal
+use Rattle.file_maker.proofs.whole.make_whole.Goals as goal
 
 pub returns-in-Err-clause-made : goal.returns-in-Err-clause-made
 returns-in-Err-clause-made g c = inl (c.in-Err.ensures.made ∙ option_map_id _)
