@@ -3,8 +3,7 @@
 //! A list is packed, 64 cells a `u64`. Words of cells, FM bytes and MFM bytes are appended, read and sought
 //! by whole words, and `Cells::find_one` steps from one transition to the next. Whoever walks a list forward
 //! and wants the number of ones up to each place, asks `Cells::ones_between` for the part walked since the last
-//! place and adds it to a total, so that the whole walk counts each cell once; `Cells::ones_to` counts from the
-//! list's begin each time.
+//! place and adds it to a total, so that the whole walk counts each cell once.
 #![tactic(auto)]
 
 mod cells;

@@ -60,16 +60,6 @@ impl Cells {
         ]
     }
 
-    /// The number of ones at the places 0 to `place`, which is below the length. It counts from the list's
-    /// begin: whoever walks forward adds up `ones_between`.
-    pub fn ones_to(&self, place: usize) -> usize
-        requires { place < length self.now.cells }
-        ensures { result ≡ ones (take (place + 1) self.now.cells) }
-    {
-        prove!(place < self.len());
-        self.ones_between(0, place + 1)
-    }
-
     /// The number of ones at places from `from` to below `to`, for `from` <= `to` <= length: what the number of
     /// ones before a place grows by on the way from `from` to `to`. It looks at the words between alone.
     pub fn ones_between(&self, from: usize, to: usize) -> usize

@@ -60,7 +60,7 @@ fn reads_across_the_border_of_a_word(rt: HostRuntime) -> Result<(), Fail> {
     assert_eq!(rt; cells.find_word(128, 200, 3, 2), None);
     assert!(rt; cells.unbroken(65, 72));
     assert!(rt; !cells.unbroken(65, 73));
-    assert_eq!(rt; cells.ones_to(127), 3);
+    assert_eq!(rt; cells.ones_between(0, 128), 3);
     assert_eq!(rt; cells.ones_between(64, 128), 2);
     cells.reserve_places(rt.alloc(), 1)?;
     cells.keep_places(3, 2);
