@@ -1,20 +1,18 @@
 -- What was written of dumps beside their picture is the text of notes.
-use Rattle.std.proofs.Common.{◌≡◌, ◌<◌, ℕ, suc, List, [], ◌∷◌, ◌++◌, length, get_or, Option, Result, Ok, Err, refl, sym, ap, ◌∙◌, arith}
+use Rattle.std.proofs.Common.{◌≡◌, ◌<◌, ℕ, suc, List, [], ◌∷◌, ◌++◌, length, get_or, Option, refl, sym, ap, ◌∙◌, arith}
 use Rattle.std.specs.List.{flat_map, range_with_len}
 use Rattle.flux_engine.specs.Disks.{lines, part_at}
 use Rattle.flux_engine.specs.LoopProgress.{streams_over}
 use Rattle.flux_engine.specs.Plans.{IsPlannedPart, Streams, joined, passed_to}
 use Rattle.flux_engine.specs.Recordings.{track_at}
 use Rattle.flux_engine.specs.Tracks.{TrackPart, track_notes}
-use Rattle.flux_engine.specs.declared.fault.Stopped.{Stopped}
 use Rattle.dump_reading.specs.Beside.{beside_at, beside_to, captures_at}
 use Rattle.dump_reading.specs.Files.{ShelfNow}
 use Rattle.dump_reading.specs.Outcomes.{DumpDisk, DumpsRead, lines_of, plan_of}
-use Rattle.dump_reading.specs.declared.fault.NoFiles.{NoFiles}
 use Rattle.dump_reading.specs.declared.totals.DumpTotals.{DumpTotals}
-use Rattle.disk_map.specs.Dumps.{SaysOfLined, WroteLines}
+use Rattle.disk_map.specs.Dumps.{WroteLines}
 use Rattle.disk_map.specs.Maps.{lined_by}
-use Rattle.disk_summary.specs.Dumps.{DrawingsAreNoted, SaysOfNotedDrawing, noted_beside, noted_track}
+use Rattle.disk_summary.specs.Dumps.{DrawingsAreNoted, noted_beside, noted_track}
 use Rattle.disk_summary.specs.Notes.{beside_notes, track_notes_of}
 use Rattle.disk_summary.specs.Texts.{note_text, notes_text}
 use Rattle.disk_summary.specs.declared.note.Note.{Note}
@@ -68,10 +66,3 @@ module _ (disk : DumpDisk) (start now : ShelfNow) (notes notes' : Option (List �
 pub noted-drew : DrawingsAreNoted
 noted-drew disk start now picture picture' notes notes' totals lined =
     record { both = lined; noted = (noted disk start now notes notes' totals lined.wrote).notes; text = text-of disk start now notes notes' totals lined.wrote }
-
--- what is said of lines is said of notes
-pub noted-says : (disk : DumpDisk) (start now : ShelfNow) (picture picture' notes notes' : Option (List ℕ)) (answer : Result DumpTotals (Stopped NoFiles))
-    → SaysOfLined noted_track noted_beside disk start now picture picture' notes notes' answer → SaysOfNotedDrawing disk start now picture picture' notes notes' answer
-noted-says disk start now picture picture' notes notes' (Ok totals) (some, lined) =
-    (some, noted-drew disk start now picture picture' notes notes' totals lined)
-noted-says disk start now picture picture' notes notes' (Err stop) says = says

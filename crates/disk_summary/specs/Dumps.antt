@@ -1,15 +1,12 @@
--- What dumps come to in the notes of a summary, and what reading them for these and for their picture
--- may answer.
-use Rattle.std.specs.Prelude.{◌≡◌, ℕ, List, Option, None, Result, Ok, Err}
+-- What dumps come to in the notes of a summary.
+use Rattle.std.specs.Prelude.{◌≡◌, ℕ, List, Option}
 use Rattle.flux_base.specs.declared.track.TrackId.{TrackId}
 use Rattle.turn_merge.specs.Others.{NotedOther}
-use Rattle.flux_engine.specs.declared.fault.Stopped.{Stopped}
 use Rattle.flux_engine.specs.declared.gathered_track.PassedStream.{PassedStream}
 use Rattle.dump_reading.specs.Files.{ShelfNow}
-use Rattle.dump_reading.specs.Outcomes.{DumpDisk, IsToldEmpty}
-use Rattle.dump_reading.specs.declared.fault.NoFiles.{NoFiles}
+use Rattle.dump_reading.specs.Outcomes.{DumpDisk}
 use Rattle.dump_reading.specs.declared.totals.DumpTotals.{DumpTotals}
-use Rattle.disk_map.specs.Dumps.{DrewWithLines, SaysOfLined}
+use Rattle.disk_map.specs.Dumps.{DrewWithLines}
 use Rattle.disk_map.specs.Maps.{TrackLinesOf}
 use Rattle.disk_summary.specs.Notes.{beside_notes, track_notes_of}
 use Rattle.disk_summary.specs.Texts.{notes_text}
@@ -37,13 +34,3 @@ DrawingsAreNoted = (disk : DumpDisk) (start now : ShelfNow)
     (picture picture' notes notes' : Option (List ℕ)) (totals : DumpTotals)
     → DrewWithLines noted_track noted_beside disk start now picture picture' notes notes' totals
     → DrewNoted disk start now picture picture' notes notes' totals
-
--- what an answer says
-abbrev pub SaysOfNotedDrawing : DumpDisk → (start now : ShelfNow)
-    → (picture picture' notes notes' : Option (List ℕ)) → Result DumpTotals (Stopped NoFiles)
-    → Type 0
-SaysOfNotedDrawing disk start now picture picture' notes notes' (Ok totals) =
-    IsToldEmpty disk start.told.files None
-    × DrewNoted disk start now picture picture' notes notes' totals
-SaysOfNotedDrawing disk start now picture picture' notes notes' (Err stop) =
-    SaysOfLined noted_track noted_beside disk start now picture picture' notes notes' (Err stop)

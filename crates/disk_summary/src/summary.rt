@@ -29,8 +29,8 @@ pub struct Summary {
     pub status: Status,
 }
 
-/// Writes a summary and a line end, where the bytes are the texts of notes as `draw_noted_dumps` writes them. After `Failed` a
-/// part of it was written.
+/// Writes a summary and a line end, where the bytes are the texts of notes as `NoteWriter` and `note_turns` write them.
+/// After `Failed` a part of it was written.
 pub fn write_summary<W: Sink>(summary: &Summary, notes: &[u8], out: &mut W) -> Result<(), Failed>
     ensures says { (ns : List Note) → notes.now ≡ notes_text ns
         → Puts (sink_at W.Sink out.old) (sink_at W.Sink out.new) (summary_text summary.now ns) result }
