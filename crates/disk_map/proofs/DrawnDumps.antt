@@ -1,9 +1,9 @@
 -- From what the loop over dumps wrote to the picture of a disk, and to the lines beside it.
-use Rattle.std.specs.Prelude.{◌≡◌, ℕ, ◌+◌, ◌-◌, List, [], ◌∷◌, ◌++◌, codes, length, take, Option, None, Result, Ok, Err, refl}
+use Rattle.std.specs.Prelude.{◌≡◌, ℕ, ◌+◌, List, [], ◌∷◌, ◌++◌, codes, length, Option, Err, refl}
 use Rattle.std.specs.Io.KnownBytes.{Appends}
-use Rattle.std.proofs.Common.{ap, sym, subst, ◌∙◌, arith, inl, inr, append-nil}
-use Rattle.std.proofs.KnownBytes.{Appends-nil, Appends-trans}
-use Rattle.std.proofs.lemmas.List.{length_push, take-append-le, take_all}
+use Rattle.std.proofs.Common.{sym, subst, ◌∙◌, arith, inl, inr, append-nil}
+use Rattle.std.proofs.KnownBytes.{Appends-trans}
+use Rattle.std.proofs.lemmas.List.{length_push}
 use Rattle.flux_base.specs.Outside.{AppendsPart}
 use Rattle.flux_base.specs.lemmas.Parts.{AppendsPart-second}
 use Rattle.flux_base.specs.Blames.{CountsBy, no_counts, three_counts}
@@ -23,45 +23,24 @@ use Rattle.flux_engine.specs.declared.fault.Stopped.TheVariants.{ReadFault, Imag
 use Rattle.flux_engine.specs.declared.track_part.PartFault.TheVariants.{ImageFault as PartImageFault}
 use Rattle.dump_reading.specs.declared.totals.DumpTotals.{DumpTotals}
 use Rattle.dump_reading.specs.lemmas.Coming.{none_came}
-use Rattle.disk_map.specs.Dumps.{DrewWithLines, SaysOfDrawing, SaysOfLined, StoppedInPicture, dumps_foot, dumps_front, dumps_part, dumps_part_with, lines_read, picture_of}
-use Rattle.disk_map.specs.Maps.{TrackLinesOf, lined_by, no_track_lines}
+use Rattle.disk_map.specs.Dumps.{DrewWithLines, SaysOfDrawing, StoppedInDumps, dumps_foot, dumps_front, dumps_part, dumps_part_with, lines_read, picture_of}
+use Rattle.disk_map.specs.Maps.{TrackLinesOf, lined_by}
 use Rattle.disk_map.specs.Places.{layout_of}
 use Rattle.disk_map.specs.Texts.{top_by}
 use Rattle.disk_map.proofs.Drawing.{cut_track}
 use Rattle.disk_map.proofs.Shown.{numbers-as, read_all_as, texts-as}
 
+-- a picture up to its foot
+front : (format : Format) (picture top : Option (List ℕ)) → Appends picture top (top_by (codes "read") format) → (parts : List TrackPart) (written : Option (List ℕ))
+    → Appends top written (images parts) → Appends picture written (dumps_front format parts)
+front format picture top begun parts written grew = Appends-trans picture top written (top_by (codes "read") format) (images parts) begun grew
+
 module _ (of : TrackLinesOf) (beside_of : LinesOf) (disk : DumpDisk) (start : ShelfNow) (picture notes : Option (List ℕ)) where
-  -- the sink failed before the first field
-  pub no-top : (picture' : Option (List ℕ)) → AppendsPart picture picture' (top_by (codes "read") disk.format)
-      → StoppedInPicture of beside_of disk start start picture picture' notes notes
-  no-top picture' part = record {
-    streams = [];
-    parts = [];
-    few = omega arith;
-    read = record { all = omega arith; are = λ files known n q few within below. absurd (omega (arith, below)); each = λ n below. absurd (omega (arith, below)) };
-    beside = [];
-    ending = [];
-    noted = [];
-    ends = inl (refl, refl, refl);
-    shelf = (
-        let none = none_came (of_disk disk.stepping disk.dumps (length disk.dumps) disk.format) start in
-        record { told = none.told; counts = none.counts }
-        );
-    grew = subst (AppendsPart picture picture') (sym (append-nil (dumps_front disk.format []) ∙ append-nil (top_by (codes "read") disk.format))) part;
-    lines_grew = Appends-nil notes;
-  }
-
   module _ (now : ShelfNow) (top : Option (List ℕ)) (begun : Appends picture top (top_by (codes "read") disk.format)) where
-    front : (parts : List TrackPart) (written : Option (List ℕ)) → Appends top written (images parts) → Appends picture written (dumps_front disk.format parts)
-    front parts written grew = Appends-trans picture top written (top_by (codes "read") disk.format) (images parts) begun grew
-
     module _ (written notes' picture' : Option (List ℕ)) (totals : DumpTotals)
         (h : HasTracksBy (dumps_part_with of) beside_of disk start now top written notes notes' totals) where
       abbrev foot-of : DumpTotals → List ℕ
       foot-of t = dumps_foot (layout_of disk.format) t
-
-      abbrev numbers : DumpTotals
-      numbers = numbers_of h.streams h.parts h.others h.beside.came h.beside.others
 
       -- all was written
       pub drawn-all : Appends written picture' (dumps_foot (layout_of disk.format) totals) → DrewWithLines of beside_of disk start now picture picture' notes notes' totals
@@ -86,7 +65,7 @@ module _ (of : TrackLinesOf) (beside_of : LinesOf) (disk : DumpDisk) (start : Sh
               };
               shelf = h.shelf;
               grew = subst (Appends picture picture') (λ i. (top_by (codes "read") disk.format ++ sym fields_are i) ++ foot-of (fields_count i))
-                  (Appends-trans picture written picture' (dumps_front disk.format h.parts) (foot-of totals) (front h.parts written h.image_grew) foot);
+                  (Appends-trans picture written picture' (dumps_front disk.format h.parts) (foot-of totals) (front disk.format picture top begun h.parts written h.image_grew) foot);
               totals_are = fields_count;
             };
             wrote = record {
@@ -108,60 +87,6 @@ module _ (of : TrackLinesOf) (beside_of : LinesOf) (disk : DumpDisk) (start : Sh
             beside = refl;
           }
 
-      -- a part of the foot
-      pub no-foot : AppendsPart written picture' (dumps_foot (layout_of disk.format) totals) → StoppedInPicture of beside_of disk start now picture picture' notes notes'
-      no-foot foot = record {
-        streams = h.streams;
-        parts = h.parts;
-        few = omega (arith, h.all.many);
-        read = h.all.read;
-        beside = h.beside.came;
-        ending = foot-of numbers;
-        noted = lines h.parts ++ lines_of beside_of h.beside;
-        ends = inr (record { others = h.others; all = h.all; beside = h.beside; looked = h.looked; came_is = refl; is = refl; noted_is = refl });
-        shelf = h.shelf;
-        grew =
-            AppendsPart-second picture written picture' (dumps_front disk.format h.parts) (foot-of numbers) (front h.parts written h.image_grew)
-            (subst (λ (t : DumpTotals). AppendsPart written picture' (dumps_foot (layout_of disk.format) t)) h.totals_are foot);
-        lines_grew = h.notes_grew;
-      }
-
-    -- all but the last
-    but-last : (parts : List TrackPart) (next : TrackPart) → lines parts ≡ lines (take (length (parts ++ next ∷ []) - 1) (parts ++ next ∷ []))
-    but-last parts next =
-        let many : length (parts ++ next ∷ []) ≡ length parts + 1 = length_push parts next in
-        let count : length parts ≡ length (parts ++ next ∷ []) - 1 = omega (arith, many) in
-        let first : take (length parts) (parts ++ next ∷ []) ≡ parts =
-        take-append-le (length parts) parts (next ∷ []) (omega arith) ∙ take_all (length parts) parts (omega arith) in
-        ap lines (sym first) ∙ ap (λ (n : ℕ). lines (take n (parts ++ next ∷ []))) count
-
-    -- the sink failed at a field
-    cut-field : (written notes' : Option (List ℕ)) → CutOfDumps PartImageFault (dumps_part_with of) beside_of disk start now top written notes notes'
-        → StoppedInPicture of beside_of disk start now picture written notes notes'
-    cut-field written notes' w =
-        let many : length (w.parts ++ w.next ∷ []) ≡ length w.parts + 1 = length_push w.parts w.next in
-        record {
-          streams = w.are.streams;
-          parts = w.parts ++ w.next ∷ [];
-          few = omega (arith, w.few, many);
-          read = w.are.read;
-          beside = [];
-          ending = [];
-          noted = lines w.parts;
-          ends = inl (refl, refl, but-last w.parts w.next);
-          shelf = w.are.shelf;
-          grew = cut_track picture top written (top_by (codes "read") disk.format) w.parts w.next w.wrote.0.0 w.wrote.0.1 begun w.wrote.0.2;
-          lines_grew = w.wrote.1;
-        }
-
-    -- reading the tracks stopped
-    pub drawn-stopped : (written notes' : Option (List ℕ)) (fault : Stopped NoFiles) → StopsBy (dumps_part_with of) beside_of disk start now top written notes notes' fault
-        → SaysOfLined of beside_of disk start now picture written notes notes' (Err fault)
-    drawn-stopped written notes' ReadFault stops = absurd stops
-    drawn-stopped written notes' (Refused empty) stops = absurd stops
-    drawn-stopped written notes' ImageFault stops = cut-field written notes' stops
-    drawn-stopped written notes' NotesFault stops = record { top = top; begun = begun; cut = stops }
-
 -- the same by the format
 pub drawn-whole : (of : TrackLinesOf) (beside_of : LinesOf) (disk : DumpDisk) (start now : ShelfNow) (before top notes notes' : Option (List ℕ)) (format : Format)
     (written picture' : Option (List ℕ)) (totals : DumpTotals) → disk.format ≡ format → Appends before top (top_by (codes "read") format)
@@ -172,12 +97,67 @@ drawn-whole of beside_of disk start now before top notes notes' format written p
     (subst (λ (f : Format). Appends before top (top_by (codes "read") f)) (sym same) begun) written notes' picture' totals h
     (subst (λ (f : Format). Appends written picture' (dumps_foot (layout_of f) totals)) (sym same) foot)
 
--- where there are no lines, their sink has not failed
-pub unlined : (disk : DumpDisk) (start now : ShelfNow) (picture picture' : Option (List ℕ)) (answer : Result DumpTotals (Stopped NoFiles)) (p p' : FaultCounts)
-    → CountsBy (sink_blame answer) (three_counts no_counts p no_counts) (three_counts no_counts p' no_counts)
-    → SaysOfLined no_track_lines no_lines disk start now picture picture' None None answer → SaysOfDrawing disk start now picture picture' answer
-unlined disk start now picture picture' (Ok totals) p p' counts (some, both) = (some, both.drew)
-unlined disk start now picture picture' (Err ReadFault) p p' counts stops = absurd stops
-unlined disk start now picture picture' (Err (Refused empty)) p p' counts (dump, none, still, same, same_notes) = (dump, none, still, same)
-unlined disk start now picture picture' (Err ImageFault) p p' counts stops = stops
-unlined disk start now picture picture' (Err NotesFault) p p' counts stops = omega (arith, counts.notes.cause)
+-- a picture alone that was not drawn whole
+module _ (disk : DumpDisk) (start : ShelfNow) (picture : Option (List ℕ)) where
+  -- the sink failed before the first field
+  pub no-top : (picture' : Option (List ℕ)) → AppendsPart picture picture' (top_by (codes "read") disk.format) → StoppedInDumps disk start start picture picture'
+  no-top picture' part = record {
+    streams = [];
+    parts = [];
+    few = omega arith;
+    read = record { all = omega arith; are = λ files known n q few within below. absurd (omega (arith, below)); each = λ n below. absurd (omega (arith, below)) };
+    beside = [];
+    ending = [];
+    ends = inl (refl, refl);
+    shelf = (
+        let none = none_came (of_disk disk.stepping disk.dumps (length disk.dumps) disk.format) start in
+        record { told = none.told; counts = none.counts }
+        );
+    grew = subst (AppendsPart picture picture') (sym (append-nil (dumps_front disk.format []) ∙ append-nil (top_by (codes "read") disk.format))) part;
+  }
+
+  module _ (now : ShelfNow) (top : Option (List ℕ)) (begun : Appends picture top (top_by (codes "read") disk.format)) (written notes notes' : Option (List ℕ)) where
+    -- a part of the foot
+    pub no-foot : (picture' : Option (List ℕ)) (totals : DumpTotals) → HasTracksBy dumps_part no_lines disk start now top written notes notes' totals
+        → AppendsPart written picture' (dumps_foot (layout_of disk.format) totals) → StoppedInDumps disk start now picture picture'
+    no-foot picture' totals h foot =
+        let numbers : DumpTotals = numbers_of h.streams h.parts h.others h.beside.came h.beside.others in
+        record {
+          streams = h.streams;
+          parts = h.parts;
+          few = omega (arith, h.all.many);
+          read = h.all.read;
+          beside = h.beside.came;
+          ending = dumps_foot (layout_of disk.format) numbers;
+          ends = inr (record { others = h.others; all = h.all; beside = h.beside; looked = h.looked; came_is = refl; is = refl });
+          shelf = h.shelf;
+          grew =
+              AppendsPart-second picture written picture' (dumps_front disk.format h.parts) (dumps_foot (layout_of disk.format) numbers)
+              (front disk.format picture top begun h.parts written h.image_grew)
+              (subst (λ (t : DumpTotals). AppendsPart written picture' (dumps_foot (layout_of disk.format) t)) h.totals_are foot);
+        }
+
+    -- the sink failed at a field
+    cut-field : CutOfDumps PartImageFault dumps_part no_lines disk start now top written notes notes' → StoppedInDumps disk start now picture written
+    cut-field w =
+        let many : length (w.parts ++ w.next ∷ []) ≡ length w.parts + 1 = length_push w.parts w.next in
+        record {
+          streams = w.are.streams;
+          parts = w.parts ++ w.next ∷ [];
+          few = omega (arith, w.few, many);
+          read = w.are.read;
+          beside = [];
+          ending = [];
+          ends = inl (refl, refl);
+          shelf = w.are.shelf;
+          grew = cut_track picture top written (top_by (codes "read") disk.format) w.parts w.next w.wrote.0.0 w.wrote.0.1 begun w.wrote.0.2;
+        }
+
+    -- Reading the tracks stopped: the sink of lines, of which there are none, has not failed.
+    pub drawn-stopped : (p p' : FaultCounts) (fault : Stopped NoFiles)
+        → CountsBy (sink_blame {A = DumpTotals} (Err fault)) (three_counts no_counts p no_counts) (three_counts no_counts p' no_counts)
+        → StopsBy dumps_part no_lines disk start now top written notes notes' fault → SaysOfDrawing disk start now picture written (Err fault)
+    drawn-stopped p p' ReadFault counts stops = absurd stops
+    drawn-stopped p p' (Refused empty) counts stops = absurd stops
+    drawn-stopped p p' ImageFault counts stops = cut-field stops
+    drawn-stopped p p' NotesFault counts stops = omega (arith, counts.notes.cause)

@@ -1,5 +1,5 @@
 -- What a disk comes to in a picture that is read of its dumps, and what drawing it may answer.
-use Rattle.std.specs.Prelude.{◌≡◌, ◌<◌, ◌≤◌, ◌⊎◌, ℕ, ◌-◌, List, [], ◌++◌, codes, length, take}
+use Rattle.std.specs.Prelude.{◌≡◌, ◌<◌, ◌≤◌, ◌⊎◌, ℕ, List, [], ◌++◌, codes, length}
 use Rattle.std.specs.Prelude.{Option, Some, None, Result, Ok, Err}
 use Rattle.std.specs.Io.KnownBytes.{Appends}
 use Rattle.flux_base.specs.Outside.{AppendsPart}
@@ -16,12 +16,11 @@ use Rattle.flux_engine.specs.Tracks.{TrackPart}
 use Rattle.flux_engine.specs.declared.fault.Stopped.{Stopped}
 use Rattle.flux_engine.specs.declared.fault.Stopped.TheVariants.{ReadFault, ImageFault}
 use Rattle.flux_engine.specs.declared.fault.Stopped.TheVariants.{NotesFault, Refused}
-use Rattle.flux_engine.specs.declared.track_part.PartFault.TheVariants.{NotesFault as Untold}
 use Rattle.dump_reading.specs.Beside.{LinesOf, no_lines}
 use Rattle.dump_reading.specs.Files.{ShelfNow}
-use Rattle.dump_reading.specs.Outcomes.{AreAllBy, AreTracksBy, CutOfDumps, DumpDisk, DumpsRead}
+use Rattle.dump_reading.specs.Outcomes.{AreAllBy, AreTracksBy, DumpDisk, DumpsRead}
 use Rattle.dump_reading.specs.Outcomes.{FilesFailed, IsDumpsRead, IsReadBy, IsToldEmpty}
-use Rattle.dump_reading.specs.Outcomes.{LookedAsAsked, LookedBeside, lines_of, numbers_of}
+use Rattle.dump_reading.specs.Outcomes.{LookedAsAsked, LookedBeside, numbers_of}
 use Rattle.dump_reading.specs.Reports.{read_part}
 use Rattle.dump_reading.specs.declared.fault.NoFiles.{NoFiles}
 use Rattle.dump_reading.specs.declared.totals.DumpTotals.{DumpTotals}
@@ -85,58 +84,37 @@ pub record WroteLines (of : TrackLinesOf) (beside_of : LinesOf) (disk : DumpDisk
   pub totals_are : totals ≡ outcome.totals
 
 -- Behind all tracks of the format stands the foot, which counts what came of the files beside them
--- too. All lines were written before it.
-pub record HasFoot (of : TrackLinesOf) (beside_of : LinesOf) (disk : DumpDisk)
-    (told : Option (List File)) (streams : List Seen) (parts : List TrackPart) (came : List Seen)
-    (ending noted : List ℕ) : Type 0 where
+-- too.
+pub record HasFoot (disk : DumpDisk) (told : Option (List File)) (streams : List Seen)
+    (parts : List TrackPart) (came : List Seen) (ending : List ℕ) : Type 0 where
   pub others : List (List NotedOther)
-  pub all : AreAllBy (dumps_part_with of) disk told streams parts others
+  pub all : AreAllBy dumps_part disk told streams parts others
   pub beside : LookedBeside disk told
   pub looked : LookedAsAsked (totals_over parts) beside
   pub came_is : came ≡ beside.came
   pub is : ending
       ≡ dumps_foot (layout_of disk.format) (numbers_of streams parts others came beside.others)
-  pub noted_is : noted ≡ lines parts ++ lines_of beside_of beside
 
--- What stands in a picture after some of its tracks: nothing yet, and nothing came beside them, and
--- the lines are those of all tracks but the last, in which the sink failed; or the foot where these
--- are all.
-abbrev pub IsDumpsEnding : TrackLinesOf → LinesOf → DumpDisk → Option (List File) → List Seen
-    → List TrackPart → List Seen → (ending noted : List ℕ) → Type 0
-IsDumpsEnding of beside_of disk told streams parts came ending noted =
-    ((ending ≡ []) × (came ≡ []) × (noted ≡ lines (take (length parts - 1) parts)))
-    ⊎ HasFoot of beside_of disk told streams parts came ending noted
+-- What stands in a picture after some of its tracks: nothing yet, and nothing came beside them; or
+-- the foot where these are all.
+abbrev pub IsDumpsEnding : DumpDisk → Option (List File) → List Seen → List TrackPart → List Seen
+    → (ending : List ℕ) → Type 0
+IsDumpsEnding disk told streams parts came ending =
+    ((ending ≡ []) × (came ≡ [])) ⊎ HasFoot disk told streams parts came ending
 
 -- The sink of the picture failed: a part of a picture of the first tracks was written, which is
 -- shorter than it.
-pub record StoppedInPicture (of : TrackLinesOf) (beside_of : LinesOf) (disk : DumpDisk)
-    (start now : ShelfNow) (picture picture' notes notes' : Option (List ℕ)) : Type 0 where
+pub record StoppedInDumps (disk : DumpDisk) (start now : ShelfNow)
+    (picture picture' : Option (List ℕ)) : Type 0 where
   pub streams : List Seen
   pub parts : List TrackPart
   pub few : length parts ≤ length (tracks disk.format)
-  pub read : AreTracksBy (dumps_part_with of) disk start.told.files streams parts
+  pub read : AreTracksBy dumps_part disk start.told.files streams parts
   pub beside : List Seen
   pub ending : List ℕ
-  pub noted : List ℕ
-  pub ends : IsDumpsEnding of beside_of disk start.told.files streams parts beside ending noted
+  pub ends : IsDumpsEnding disk start.told.files streams parts beside ending
   pub shelf : FilesFailed disk start now streams beside
   pub grew : AppendsPart picture picture' (dumps_front disk.format parts ++ ending)
-  pub lines_grew : Appends notes notes' noted
-
--- where there are no lines
-abbrev pub StoppedInDumps : DumpDisk → (start now : ShelfNow) → (picture picture' : Option (List ℕ))
-    → Type 0
-StoppedInDumps disk start now picture picture' =
-    StoppedInPicture no_track_lines no_lines disk start now picture picture' None None
-
--- The sink of the lines failed, behind the picture's top: in those of a track whose fields were
--- written, or of those beside.
-pub record StoppedInLines (of : TrackLinesOf) (beside_of : LinesOf) (disk : DumpDisk)
-    (start now : ShelfNow) (picture picture' notes notes' : Option (List ℕ)) : Type 0 where
-  pub top : Option (List ℕ)
-  pub begun : Appends picture top (top_by (codes "read") disk.format)
-  pub cut : CutOfDumps Untold (dumps_part_with of) beside_of disk start now top picture'
-      notes notes'
 
 -- What an answer says. A dump without files is told before anything is read or written; a
 -- file that fails ends nothing.
@@ -152,7 +130,7 @@ SaysOfDrawing disk start now picture picture' (Err ImageFault) =
     StoppedInDumps disk start now picture picture'
 SaysOfDrawing disk start now picture picture' (Err NotesFault) = ⊥
 
--- The same of a picture with lines beside it. Picture and lines are of one reading.
+-- A picture and lines beside it were written, of one reading.
 pub record DrewWithLines (of : TrackLinesOf) (beside_of : LinesOf) (disk : DumpDisk)
     (start now : ShelfNow) (picture picture' notes notes' : Option (List ℕ))
     (totals : DumpTotals) : Type 0 where
@@ -160,21 +138,6 @@ pub record DrewWithLines (of : TrackLinesOf) (beside_of : LinesOf) (disk : DumpD
   pub wrote : WroteLines of beside_of disk start now notes notes' totals
   pub streams : wrote.is.streams ≡ drew.is.streams
   pub beside : wrote.is.beside.came ≡ drew.is.beside.came
-
-abbrev pub SaysOfLined : TrackLinesOf → LinesOf → DumpDisk → (start now : ShelfNow)
-    → (picture picture' notes notes' : Option (List ℕ)) → Result DumpTotals (Stopped NoFiles)
-    → Type 0
-SaysOfLined of beside_of disk start now picture picture' notes notes' (Ok totals) =
-    IsToldEmpty disk start.told.files None
-    × DrewWithLines of beside_of disk start now picture picture' notes notes' totals
-SaysOfLined of beside_of disk start now picture picture' notes notes' (Err ReadFault) = ⊥
-SaysOfLined of beside_of disk start now picture picture' notes notes' (Err (Refused empty)) =
-    (empty.dump < length disk.dumps) × IsToldEmpty disk start.told.files (Some empty.dump)
-    × (now ≡ start) × (picture' ≡ picture) × (notes' ≡ notes)
-SaysOfLined of beside_of disk start now picture picture' notes notes' (Err ImageFault) =
-    StoppedInPicture of beside_of disk start now picture picture' notes notes'
-SaysOfLined of beside_of disk start now picture picture' notes notes' (Err NotesFault) =
-    StoppedInLines of beside_of disk start now picture picture' notes notes'
 
 -- A picture is that of a report: the report of the same streams has the same numbers, and of each
 -- track the picture has the fields by what was gathered of it, of which the report has the lines.

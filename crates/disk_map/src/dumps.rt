@@ -4,19 +4,19 @@ ghost use Rattle.std.specs.Prelude.{◌≡◌, ◌≤◌, ℕ, List, Option, cod
 ghost use Rattle.std.specs.Io.KnownBytes.{Appends};
 ghost use Rattle.flux_base.specs.Blames.{CountsBy, no_counts, three_counts};
 ghost use Rattle.flux_base.specs.Moments.{Puts};
-ghost use Rattle.flux_base.specs.World.{sink_at, sink_counts, sinks_counts};
+ghost use Rattle.flux_base.specs.World.{sink_at, sink_counts};
 ghost use Rattle.flux_engine.specs.Room.{fresh};
 ghost use Rattle.flux_engine.specs.Blamed.{sink_blame};
 ghost use Rattle.dump_reading.specs.Beside.{LinesOf};
 ghost use Rattle.dump_reading.specs.Files.{ShelfNow, shelf_at};
 ghost use Rattle.dump_reading.specs.Outcomes.{DumpDisk, HasTracksBy, disk_of};
-ghost use Rattle.disk_map.specs.Dumps.{DrewWithLines, SaysOfDrawing, SaysOfLined, dumps_foot, dumps_part_with};
+ghost use Rattle.disk_map.specs.Dumps.{DrewWithLines, SaysOfDrawing, dumps_foot, dumps_part_with};
 ghost use Rattle.disk_map.specs.Maps.{TrackLinesOf};
 ghost use Rattle.disk_map.specs.Places.{layout_of};
 ghost use Rattle.disk_map.specs.Texts.{top_by};
 
 use crate::disk::write_top;
-use crate::field_writer::{FieldWriter, LineWriter};
+use crate::field_writer::FieldWriter;
 use crate::layout::Layout;
 use crate::text::write_text;
 use crate::texts::{counts_text, foot_text};
@@ -51,31 +51,6 @@ pub fn map_dumps<H: Shelf, P: Sink>(
         (three_counts no_counts (sink_counts P.Sink picture.old) no_counts)
         (three_counts no_counts (sink_counts P.Sink picture.new) no_counts) }
 {
-    let mut nothing = CountingSink::new();
-    draw_dumps(dumps, &Unsaid, room, shelf, picture, &mut nothing)
-}
-
-/// The same, and lines beside the picture: of each track those of a writer, also of the files of other tracks. After a
-/// fault of a sink nothing more is read or written.
-pub fn draw_dumps<L: LineWriter, H: Shelf, P: Sink, N: Sink>(
-    dumps: &Dumps,
-    lines: &L,
-    room: &mut DiskRoom,
-    shelf: &mut H,
-    picture: &mut P,
-    notes: &mut N,
-) -> Result<DumpTotals, Stopped<NoFiles>>
-    requires fresh { room.old ≡ fresh room.old.format }
-    requires few { length dumps.now.names.now ≤ 16 }
-    ensures says { SaysOfLined (L.track_lines_of lines.now) (L.lines_of lines.now) (disk_of dumps.now room.old.format)
-        (shelf_at H.Source H.Shelf.own shelf.old) (shelf_at H.Source H.Shelf.own shelf.new) (P.written picture.old)
-        (P.written picture.new) (N.written notes.old) (N.written notes.new) result }
-
-    // What the shelf did is in what came of it.
-    ensures blames { CountsBy (sink_blame result)
-        (sinks_counts P.Sink N.Sink picture.old notes.old)
-        (sinks_counts P.Sink N.Sink picture.new notes.new) }
-{
     let format = room_format(room);
     match find_empty(dumps, format, shelf) {
         None => {}
@@ -87,19 +62,20 @@ pub fn draw_dumps<L: LineWriter, H: Shelf, P: Sink, N: Sink>(
     }
     let writer = FieldWriter {
         naming: Naming::ByCaptureAndClock,
-        lines,
+        lines: &Unsaid,
     };
+    let mut nothing = CountingSink::new();
     let mut none = NoSecond;
     let totals = match read_dump_tracks(
         Clocks::Both,
         Looks::Always,
         dumps,
         &writer,
-        lines,
+        &Unsaid,
         room,
         shelf,
         picture,
-        notes,
+        &mut nothing,
         &mut none,
     ) {
         Ok(totals) => totals,

@@ -16,7 +16,7 @@ mod text;
 mod texts;
 
 pub use disk::map_disk;
-pub use dumps::{begin_drawing, draw_dumps, end_drawing, map_dumps};
+pub use dumps::{begin_drawing, end_drawing, map_dumps};
 pub use field_writer::{FieldWriter, LineWriter};
 pub use kind::{Kind, kind_of, name_of};
 pub use laws::{
