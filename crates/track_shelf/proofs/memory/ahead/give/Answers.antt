@@ -2,7 +2,7 @@ use Rattle.std.proofs.Common.{◌≡◌, ◌-◌, List, ℕ, ◌∷◌, length, 
 use Rattle.std.proofs.lemmas.List.{take_rest}
 use Rattle.track_shelf.specs.Memory.{ahead_from, bytes_at, cut_first, first_piece, with_bytes}
 use Rattle.track_shelf.proofs.Ahead.{given-count, given-front, next-at, with-none}
-use Rattle.track_shelf.proofs.memory.give.Goals as goal
+use Rattle.track_shelf.proofs.memory.ahead.give.Goals as goal
 
 pub returns-in_default-clause-later : goal.returns-in_default-clause-later
 returns-in_default-clause-later c =

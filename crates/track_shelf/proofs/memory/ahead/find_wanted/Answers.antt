@@ -4,7 +4,7 @@ use Rattle.sector_images.specs.Places.{tracks}
 use Rattle.track_shelf.specs.Files.{track_bytes}
 use Rattle.track_shelf.specs.Memory.{bytes_at}
 use Rattle.track_shelf.proofs.Finding.{AllThere-more, first-missing, none-missing, places-more}
-use Rattle.track_shelf.proofs.memory.find_wanted.Goals as goal
+use Rattle.track_shelf.proofs.memory.ahead.find_wanted.Goals as goal
 
 pub push-requires : goal.push-requires
 push-requires c =

@@ -1,7 +1,7 @@
 use Rattle.std.proofs.Common.{◌≡◌, length, get_or, arith, ◌∙◌, sym, ap}
 use Rattle.track_shelf.specs.Memory.{ahead_from, bytes_at}
 use Rattle.track_shelf.proofs.Ahead.{none-ahead, pass}
-use Rattle.track_shelf.proofs.memory.pass_taken.Goals as goal
+use Rattle.track_shelf.proofs.memory.ahead.pass_taken.Goals as goal
 
 pub loop-next-preserved : goal.loop-next-preserved
 unfolding ahead_from

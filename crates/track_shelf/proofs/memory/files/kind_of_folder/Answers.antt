@@ -3,7 +3,7 @@ use Rattle.std.proofs.lemmas.List.{take_all}
 use Rattle.track_shelf.specs.DumpKinds.{kind_of_folder, names_in}
 use Rattle.track_shelf.specs.Files.{File}
 use Rattle.track_shelf.proofs.DumpKinds.{names-more, no-names}
-use Rattle.track_shelf.proofs.memory.kind_of_folder.Goals as goal
+use Rattle.track_shelf.proofs.memory.files.kind_of_folder.Goals as goal
 
 pub loop-file-init : goal.loop-file-init
 loop-file-init c = no-names

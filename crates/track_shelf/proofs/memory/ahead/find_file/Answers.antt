@@ -1,7 +1,7 @@
 use Rattle.std.proofs.Common.{◌++◌, ◌∷◌, [], ℕ, List, map, sym, ap, ◌∙◌}
 use Rattle.track_shelf.specs.Memory.{bytes_at}
 use Rattle.track_shelf.proofs.Finding.{found-pieces, none-pieces}
-use Rattle.track_shelf.proofs.memory.find_file.Goals as goal
+use Rattle.track_shelf.proofs.memory.ahead.find_file.Goals as goal
 
 pub returns-in-Some : goal.returns-in-Some
 returns-in-Some c =

@@ -2,7 +2,7 @@ use Rattle.std.proofs.Common.{◌++◌, [], List, ℕ, Option, option_map, sym, 
 use Rattle.std.proofs.lemmas.List.{append-nil}
 use Rattle.std.specs.List.{cons_option}
 use Rattle.track_shelf.specs.DumpKinds.{kind_of_folder}
-use Rattle.track_shelf.proofs.memory.with_file.Goals as goal
+use Rattle.track_shelf.proofs.memory.files.with_file.Goals as goal
 
 pub returns-in-Some : goal.returns-in-Some
 returns-in-Some c names kind =

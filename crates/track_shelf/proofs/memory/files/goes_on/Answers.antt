@@ -1,5 +1,5 @@
 use Rattle.track_shelf.proofs.Joins.{agree, by-end, differ, other-front, other-middle, too-short}
-use Rattle.track_shelf.proofs.memory.goes_on.Goals as goal
+use Rattle.track_shelf.proofs.memory.files.goes_on.Goals as goal
 
 pub returns-then-ne : goal.returns-then-ne
 returns-then-ne c =

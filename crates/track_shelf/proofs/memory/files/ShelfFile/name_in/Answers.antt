@@ -2,7 +2,7 @@ use Rattle.std.proofs.Common.{◌++◌, List, ℕ, Bool, Some, None, sym, ap, �
 use Rattle.track_shelf.specs.DumpKinds.{name_in}
 use Rattle.track_shelf.specs.Files.{File}
 use Rattle.track_shelf.proofs.DumpKinds.{named-in}
-use Rattle.track_shelf.proofs.memory.ShelfFile.name_in.Goals as goal
+use Rattle.track_shelf.proofs.memory.files.ShelfFile.name_in.Goals as goal
 
 pub returns-then-are_same : goal.returns-then-are_same
 returns-then-are_same c =

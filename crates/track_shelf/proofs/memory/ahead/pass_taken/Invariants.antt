@@ -1,6 +1,6 @@
 use Rattle.std.proofs.Common.{◌≡◌, ◌-◌, length}
 use Rattle.track_shelf.specs.Memory.{ahead_from}
-use Rattle.track_shelf.proofs.memory.pass_taken.Given as goal
+use Rattle.track_shelf.proofs.memory.ahead.pass_taken.Given as goal
 
 abbrev pub invariant-loop-next : goal.invariant-loop-next
 invariant-loop-next l =

@@ -3,7 +3,7 @@ use Rattle.sector_images.specs.Places.{tracks}
 use Rattle.track_shelf.specs.Files.{track_bytes}
 use Rattle.track_shelf.specs.Memory.{bytes_at}
 use Rattle.track_shelf.proofs.Finding.{AllThere}
-use Rattle.track_shelf.proofs.memory.find_wanted.Given as goal
+use Rattle.track_shelf.proofs.memory.ahead.find_wanted.Given as goal
 
 abbrev pub invariant-loop-number : goal.invariant-loop-number
 invariant-loop-number l =
