@@ -1,5 +1,7 @@
 //! The memory for measuring the revolutions of a dump.
 
+ghost use Rattle.std.specs.Prelude.{◌≡◌, [], IfOk};
+
 use crate::files::MOST_BYTES;
 use crate::found::Found;
 use flux_base::Memory;
@@ -38,8 +40,10 @@ impl Model for TurnsRoom {
 }
 
 impl TurnsRoom {
-    /// Takes it.
-    pub fn reserve(alloc: Global) -> Result<TurnsRoom, Memory> {
+    /// Takes it. Nothing is found of any file.
+    pub fn reserve(alloc: Global) -> Result<TurnsRoom, Memory>
+        ensures { IfOk result (λ room. room ≡ []) }
+    {
         let stream = StreamRoom::reserve(alloc)?;
         let buffer = vec![in alloc; 0u8; MOST_BYTES]?;
         let founds = Vec::with_capacity(alloc, MOST_FILES)?;
